@@ -1,0 +1,9 @@
+pub mod FactorSystem
+pub mod Representations
+pub mod Traces
+pub mod Scalars
+pub mod Induced
+pub mod Reciprocity
+pub mod Extension
+pub mod Lifted
+pub mod OnePlace
