@@ -1,0 +1,4 @@
+pub mod Integer
+pub mod Rational
+pub mod Order
+pub mod Ratio
