@@ -28,7 +28,7 @@ module _ (R : Ring) where
       entries first (next j) = elim j [ ]
       entries (next i) j = elim i [ ]
 
-  one_family-simple : IsSimple (one_family R).at
+  pub one_family-simple : IsSimple (one_family R).at
   one_family-simple = record {
     members = λ k. unit R 1;
     are_intertwiners = λ k. unit-intertwines (one_family R).at;

@@ -1,0 +1,4 @@
+pub mod Vectors
+pub mod Translations
+pub mod Reciprocals
+pub mod OneOperation

@@ -1,0 +1,4 @@
+pub mod NumberText
+pub mod WaveText
+pub mod TripletText
+pub mod ReportText
