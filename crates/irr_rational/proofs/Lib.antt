@@ -5,3 +5,4 @@ pub mod Orders
 pub mod Floors
 pub mod Lexicographic
 pub mod LowestTerms
+pub mod ListedRatios

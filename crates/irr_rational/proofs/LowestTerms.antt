@@ -8,7 +8,7 @@ use Rattle.std.proofs.Common.{◌≡◌, sym, ◌∙◌, ap, ap₂, subst, ℕ, 
 use Rattle.std.proofs.lemmas.Bool.{cases_lt}
 use Rattle.std.proofs.lemmas.Int.{unsigned_abs-mul}
 use Rattle.std.specs.Int.{◌∣◌, IsGcd}
-use Rattle.std.specs.Int.RustNames.{unsigned_abs}
+use Rattle.std.specs.Int.RustNames.{int_div, unsigned_abs}
 use native.Mathlib.Nat as Nat
 use native.Mathlib.Decide.{dec_dvd, dec_lt}
 use Rattle.irr_algebra.specs.Ring.{whole}
@@ -16,13 +16,12 @@ use Rattle.irr_algebra.specs.Fin.{Fin}
 use Rattle.irr_algebra.specs.Fin.Fin.{first, next}
 use Rattle.irr_algebra.proofs.Whole.{whole-mul}
 use Rattle.irr_algebra.proofs.Indices.{all_or_one}
-use Rattle.irr_number.proofs.LowestTerms.{exact_quotient, mul-exact_quotient}
 use Rattle.irr_number.proofs.Primes.{cofactor, divisor_pos, find_below, strong_induction}
 use Rattle.irr_rational.specs.Rational.{Rational, rationals, rational_field, ratio, IsWhole}
 use Rattle.irr_rational.specs.Ratio.{AreLowest, IsLowest}
 use Rattle.irr_rational.proofs.Integers.{integer-pos, integer_inj}
 use Rattle.irr_rational.proofs.Ratios.{over_of_ratio, ratio-over, ratio_is, ratio_of, ratio-scale}
-use Rattle.irr_rational.proofs.WholeNumbers.{dvd_of_multiples, whole-integer, whole-mul as whole-product, whole_decide}
+use Rattle.irr_rational.proofs.WholeNumbers.{dvd_of_multiples, mul-int_div, whole-integer, whole-mul as whole-product, whole_decide}
 
 -- one number as a list of one
 
@@ -121,9 +120,9 @@ least_is_lowest {n} f b h none = (a, record { positive = h.0; lowest = lowest },
             c-pos = divisor_pos t.0 b h.0 (subst (λ k. t.0 ∣ k) (sym t.1) (Nat.dvd-mul_left t.0 d))
 
             smaller : (i : Fin n) → IsWhole (rationals.mul (whole rationals t.0) (f i))
-            smaller i = whole_at_denominator (f i) (exact_quotient d (a i)) t.0 c-pos
-                (sym (ratio-scale (exact_quotient d (a i)) t.0 d c-pos d-pos)
-                ∙ ap₂ ratio (mul-exact_quotient d (a i) (each i)) (sym t.1)
+            smaller i = whole_at_denominator (f i) (int_div (a i) (pos d)) t.0 c-pos
+                (sym (ratio-scale (int_div (a i) (pos d)) t.0 d c-pos d-pos)
+                ∙ ap₂ ratio (mul-int_div d (a i) (each i)) (sym t.1)
                 ∙ ratio_is (f i) (a i) b h.0 (h.1 i).is)
 
             one : b ≤ t.0 → d ≡ 1
@@ -187,10 +186,10 @@ pub gcd_of_lowest : (a : ℤ) (b : ℕ) → IsLowest a b → IsGcd (unsigned_abs
 gcd_of_lowest a b h = (Nat.one-dvd (unsigned_abs a), Nat.one-dvd b, λ d v w. subst (λ k. k ∣ 1) (sym (h.lowest d w v)) (Nat.one-dvd 1))
 
 -- a and b over their greatest common divisor g
-pub lowest_quotients : (a : ℤ) (b g : ℕ) → 0 < b → IsGcd (unsigned_abs a) b g → IsLowest (exact_quotient g a) (b / g) × (ratio (exact_quotient g a) (b / g) ≡ ratio a b)
+pub lowest_quotients : (a : ℤ) (b g : ℕ) → 0 < b → IsGcd (unsigned_abs a) b g → IsLowest (int_div a (pos g)) (b / g) × (ratio (int_div a (pos g)) (b / g) ≡ ratio a b)
 lowest_quotients a b g h k = (
   record { positive = c-pos; lowest = lowest },
-  sym (ratio-scale (exact_quotient g a) (b / g) g c-pos g-pos) ∙ ap₂ ratio (mul-exact_quotient g a k.0) (Nat.mul-div_cancel' g k.1),
+  sym (ratio-scale (int_div a (pos g)) (b / g) g c-pos g-pos) ∙ ap₂ ratio (mul-int_div g a k.0) (Nat.mul-div_cancel' g k.1),
 )
   where
     g-pos : 0 < g
@@ -199,7 +198,7 @@ lowest_quotients a b g h k = (
     c-pos : 0 < b / g
     c-pos = divisor_pos (b / g) b h (subst (λ n. b / g ∣ n) (Nat.mul-div_cancel' g k.1) (Nat.dvd-mul_left (b / g) g))
 
-    lowest : (d : ℕ) → d ∣ b / g → d ∣ unsigned_abs (exact_quotient g a) → d ≡ 1
+    lowest : (d : ℕ) → d ∣ b / g → d ∣ unsigned_abs (int_div a (pos g)) → d ≡ 1
     lowest d v w = Nat.dvd_antisymm (Nat.dvd_of_mul-dvd-mul_left d g-pos (subst (λ n. g *ℕ d ∣ n) (sym (Nat.mul-one g)) (k.2 (g *ℕ d)
-        (subst (λ n. g *ℕ d ∣ n) (sym (unsigned_abs-mul (pos g) (exact_quotient g a)) ∙ ap unsigned_abs (mul-exact_quotient g a k.0)) (Nat.mul-dvd-mul_left d g w))
+        (subst (λ n. g *ℕ d ∣ n) (sym (unsigned_abs-mul (pos g) (int_div a (pos g))) ∙ ap unsigned_abs (mul-int_div g a k.0)) (Nat.mul-dvd-mul_left d g w))
         (subst (λ n. g *ℕ d ∣ n) (Nat.mul-div_cancel' g k.1) (Nat.mul-dvd-mul_left d g v))))) (Nat.one-dvd d)

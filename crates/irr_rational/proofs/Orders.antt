@@ -11,6 +11,7 @@ use Rattle.std.proofs.Common.{◌≡◌, sym, refl, ◌∙◌, ap, subst, subst�
 use Rattle.std.proofs.lemmas.Int.{ints, by_lt_z}
 use Rattle.irr_algebra.specs.Ring.{Ring, whole}
 use Rattle.irr_algebra.proofs.Rings.{mul-zero, neg-mul, neg-zero, ring_laws}
+use Rattle.irr_number.specs.FractionLaws.{sub-trans}
 use Rattle.irr_number.specs.Integers.{integers, *ℤ-one}
 use Rattle.irr_rational.specs.Integer.{integer}
 use Rattle.irr_rational.specs.Rational.{Rational, rationals, rational_field, ratio}
@@ -115,10 +116,7 @@ le_antisymm x y h k = at_ratios (ratio_of x) (ratio_of y)
         sym s.3 ∙ ratio_same s.0 t.0 s.1 t.1 s.2 t.2 (omega (arith, ints)) ∙ t.3
 
 pub le_trans : (x y z : Rational) → x ≤ℚ y → y ≤ℚ z → x ≤ℚ z
-le_trans x y z h k = subst IsNonNegative (joined rationals x y z) (nonneg-add (rationals.add z (rationals.neg y)) (rationals.add y (rationals.neg x)) k h)
-  where
-    joined : (R : Ring) (x y z : R.Carrier) → R.add (R.add z (R.neg y)) (R.add y (R.neg x)) ≡ R.add z (R.neg x)
-    joined R x y z = R.add_assoc z (R.neg y) (R.add y (R.neg x)) ∙ ap (R.add z) (sym (R.add_assoc (R.neg y) y (R.neg x)) ∙ ap (λ u. R.add u (R.neg x)) (R.add_comm (R.neg y) y ∙ R.add-neg y) ∙ R.add_comm R.zero (R.neg x) ∙ R.add-zero (R.neg x))
+le_trans x y z h k = subst IsNonNegative (sub-trans rationals z y x) (nonneg-add (rationals.add z (rationals.neg y)) (rationals.add y (rationals.neg x)) k h)
 
 pub lt_irrefl : (x : Rational) → x <ℚ x → ⊥
 lt_irrefl x l = l.1 refl

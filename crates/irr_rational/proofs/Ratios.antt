@@ -2,6 +2,7 @@
 --   IsOver R x a b                      b times x is a
 --   ratio-over                          a over b is such a number, where b is positive
 --   ratio_is, over_of_ratio             it is the only one
+--   ratio-none                          and over 0 it is 0
 --   ratio_of x                          each rational is a ratio with a positive denominator
 --   ratio_same, cross_of_ratio          two ratios are equal exactly where their cross products are
 --   ratio-add, ratio-mul, ratio-neg     sums, products and negatives of ratios
@@ -10,7 +11,7 @@
 use Rattle.std.proofs.Common.{◌≡◌, sym, refl, ◌∙◌, ap, ap₂, ℕ, zero, suc, ◌<◌, ◌*◌ as ◌*ℕ◌, ℤ, pos, negsuc, ◌+ℤ◌, ◌*ℤ◌, neg_ℤ, lit<, arith, mul-pos}
 use Rattle.irr_algebra.specs.Ring.{Ring, whole}
 use Rattle.irr_algebra.specs.Field.{Field}
-use Rattle.irr_algebra.proofs.Rings.{one-mul, mul_left_comm, ring_laws}
+use Rattle.irr_algebra.proofs.Rings.{mul-zero, one-mul, mul_left_comm, ring_laws}
 use Rattle.irr_algebra.proofs.Whole.{whole-one, whole-mul}
 use Rattle.irr_algebra.proofs.Fields.{whole-ne-zero, mul_cancel}
 use Rattle.irr_algebra.proofs.Homomorphisms.{map-whole}
@@ -25,10 +26,11 @@ use Rattle.irr_number.specs.Relation.{IsZero}
 use Rattle.irr_number.specs.RelationLaws.{IsZero_notion}
 use Rattle.irr_number.proofs.Canonical.{canonical_form}
 use Rattle.irr_number.proofs.FixedElements.{at-whole_mul}
+use Rattle.irr_number.proofs.NumberField.{inverse-zero}
 use Rattle.irr_number.proofs.Numbers.{of_element}
 use Rattle.irr_rational.specs.Integer.{integer}
 use Rattle.irr_rational.specs.Rational.{Rational, rationals, rational_field, ratio}
-use Rattle.irr_rational.proofs.Integers.{integer-pos, integer-add, integer-mul, integer-neg, map-integer, integer_inj}
+use Rattle.irr_rational.proofs.Integers.{integer-pos, integer-zero, integer-add, integer-mul, integer-neg, map-integer, integer_inj}
 
 -- b times x is a
 abbrev pub IsOver : (R : Ring) → R.Carrier → ℤ → ℕ → Type 0
@@ -98,6 +100,11 @@ ratio-over a b h =
     ∙ ap (λ w. rationals.mul (integer rationals a) (rationals.mul w (rational_field.inverse (integer rationals (pos b))))) (sym (integer-pos rationals b))
     ∙ ap (rationals.mul (integer rationals a)) (rational_field.mul-inverse (integer rationals (pos b)) (λ e. whole-ne-zero rational_field b h (sym (integer-pos rationals b) ∙ e)))
     ∙ rationals.mul-one (integer rationals a)
+
+-- over 0 it is 0
+pub ratio-none : (a : ℤ) → ratio a 0 ≡ rationals.zero
+unfolding ratio
+ratio-none a = ap (rationals.mul (integer rationals a)) (ap rational_field.inverse (integer-zero rationals) ∙ inverse-zero 1 (lit< tt)) ∙ mul-zero rationals (integer rationals a)
 
 -- the ratio is the only number that b times makes a
 pub ratio_is : (x : Rational) (a : ℤ) (b : ℕ) → 0 < b → IsOver rationals x a b → ratio a b ≡ x

@@ -1,22 +1,23 @@
 -- Whole numbers among the rational numbers.
 --   whole_unique                          a rational is one whole number at most
 --   whole-add, whole-mul, whole-neg       sums, products and negatives of whole numbers are whole
+--   mul-int_div                           a divisor times the quotient by it
 --   whole_ratio, dvd_of_whole             a/b is whole exactly where b divides a
 --   whole_decide                          whether a rational is whole is decided
 --   whole_multiples, dvd_of_multiples     n times each a/b is whole exactly where b divides n, for as/b in lowest terms
-use Rattle.std.proofs.Common.{◌≡◌, sym, ◌∙◌, ap, ap₂, subst, refl, ℕ, zero, suc, ◌<◌, ◌*◌ as ◌*ℕ◌, ◌⊎◌, inl, inr, ◌↔◌, ℤ, pos, ◌*ℤ◌, ◌+ℤ◌, neg_ℤ, arith}
+use Rattle.std.proofs.Common.{◌≡◌, sym, ◌∙◌, ap, ap₂, subst, refl, ℕ, zero, suc, ◌<◌, ◌*◌ as ◌*ℕ◌, ◌/◌, ◌⊎◌, inl, inr, ◌↔◌, ℤ, pos, negsuc, ◌*ℤ◌, ◌+ℤ◌, neg_ℤ, arith}
 use Rattle.std.specs.Int.{◌∣◌}
-use Rattle.std.specs.Int.RustNames.{unsigned_abs}
+use Rattle.std.specs.Int.RustNames.{int_div, unsigned_abs}
 use Rattle.std.proofs.lemmas.Int.{unsigned_abs-mul}
 use native.Mathlib.Nat as Nat
 use native.Mathlib.Decide.{dec_dvd}
 use Rattle.irr_algebra.specs.Ring.{whole}
 use Rattle.irr_algebra.specs.Fin.{Fin, to_nat}
 use Rattle.irr_algebra.specs.Fin.Fin.{first, next}
-use Rattle.irr_algebra.proofs.Rings.{mul_left_comm}
+use Rattle.irr_algebra.proofs.Rings.{mul_left_comm, mul-neg}
 use Rattle.irr_algebra.proofs.Indices.{to_nat-lt}
-use Rattle.irr_number.specs.Integers.{*ℤ-one}
-use Rattle.irr_number.proofs.LowestTerms.{dvd_of_terms, exact_quotient, mul-exact_quotient}
+use Rattle.irr_number.specs.Integers.{integers, *ℤ-one}
+use Rattle.irr_number.proofs.LowestTerms.{dvd_of_terms}
 use Rattle.irr_rational.specs.Integer.{integer}
 use Rattle.irr_rational.specs.Rational.{Rational, rationals, rational_field, ratio, IsWhole}
 use Rattle.irr_rational.specs.Ratio.{AreLowest}
@@ -39,13 +40,18 @@ whole-mul x y h k = record { number = h.number *ℤ k.number; is = ap₂ rationa
 pub whole-neg : (x : Rational) → IsWhole x → IsWhole (rationals.neg x)
 whole-neg x h = record { number = neg_ℤ h.number; is = ap rationals.neg h.is ∙ sym (integer-neg rationals h.number) }
 
+-- d times the quotient by a divisor d is the number
+pub mul-int_div : (d : ℕ) (k : ℤ) → d ∣ unsigned_abs k → pos d *ℤ int_div k (pos d) ≡ k
+mul-int_div d (pos n) v = ap pos (Nat.mul-div_cancel' d v)
+mul-int_div d (negsuc n) v = mul-neg integers (pos d) (pos (suc n / d)) ∙ ap (λ x. neg_ℤ (pos x)) (Nat.mul-div_cancel' d v)
+
 -- where b divides a, a/b is the quotient
 pub whole_ratio : (a : ℤ) (b : ℕ) → 0 < b → b ∣ unsigned_abs a → IsWhole (ratio a b)
 whole_ratio a b h v = record {
-  number = exact_quotient b a;
-  is = ratio_is (integer rationals (exact_quotient b a)) a b h
-      (ap (λ w. rationals.mul w (integer rationals (exact_quotient b a))) (sym (integer-pos rationals b))
-      ∙ sym (integer-mul rationals (pos b) (exact_quotient b a)) ∙ ap (integer rationals) (mul-exact_quotient b a v));
+  number = int_div a (pos b);
+  is = ratio_is (integer rationals (int_div a (pos b))) a b h
+      (ap (λ w. rationals.mul w (integer rationals (int_div a (pos b)))) (sym (integer-pos rationals b))
+      ∙ sym (integer-mul rationals (pos b) (int_div a (pos b))) ∙ ap (integer rationals) (mul-int_div b a v));
 }
 
 -- and only there it is whole

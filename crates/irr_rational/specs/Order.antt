@@ -1,8 +1,8 @@
 -- The order of the rational numbers, and of lists of them.
 --   x ≤ℚ y, x <ℚ y      the order
 --   IsFloor x k         k is the greatest whole number that is not above x
---   IsBelow n f g       f stands before g: at the first of n places at which they differ, f is less
---   IsAtMost n f g      f is g or stands before it
+--   IsBelow f g         f stands before g: at the first of n places at which they differ, f is less
+--   IsAtMost f g        f is g or stands before it
 use Rattle.std.specs.Prelude.{ℕ, ℤ, ◌≡◌, ◌<◌, ◌⊎◌}
 use Rattle.irr_algebra.specs.Ring.{whole}
 use Rattle.irr_algebra.specs.Fin.{Fin, to_nat}

@@ -1,6 +1,8 @@
 -- Lowest terms: how a program keeps rational numbers, one by one and over a common denominator.
 --   AreLowest as b     the whole numbers as over b: b is positive, and only 1 divides b and each of as
---   ratios as b        the numbers as over b, by place
+--   IsLowest a b       the same of one whole number a
+--   entry xs i         the whole number at place i of a list
+--   ratios xs b        the whole numbers of a list over b, by place
 use Rattle.std.specs.Prelude.{ℕ, ℤ, ◌≡◌, ◌<◌, List, slice_index_or, pos}
 use Rattle.std.specs.Int.{◌∣◌}
 use Rattle.std.specs.Int.RustNames.{unsigned_abs}

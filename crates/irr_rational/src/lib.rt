@@ -3,9 +3,9 @@
 //! contracts of the functions below.
 #![tactic(auto)]
 
-ghost use Rattle.std.specs.Prelude.{ℕ, ℤ, pos, ◌≡◌, ◌<◌, ◌*◌, ◌+ℤ◌, ◌*ℤ◌, neg_ℤ, ◌≤ℤ◌, ◌<ℤ◌, ◌⊎◌, ◌↔◌};
+ghost use Rattle.std.specs.Prelude.{ℕ, ℤ, pos, List, length, ◌≡◌, ◌<◌, ◌*◌, ◌/◌, ◌+ℤ◌, ◌*ℤ◌, neg_ℤ, ◌≤ℤ◌, ◌<ℤ◌, ◌⊎◌, ◌↔◌};
 ghost use Rattle.std.specs.Int.{◌∣◌, IsGcd, int_div_euclid};
-ghost use Rattle.std.specs.Int.RustNames.{unsigned_abs};
+ghost use Rattle.std.specs.Int.RustNames.{int_div, unsigned_abs};
 ghost use Rattle.irr_algebra.specs.Ring.{whole};
 ghost use Rattle.irr_algebra.specs.Fin.{Fin};
 ghost use Rattle.irr_algebra.specs.Matrix.{Matrix, ◌·◌, ◌⊕◌, unit};
@@ -13,7 +13,7 @@ ghost use Rattle.irr_number.specs.Integers.{integers};
 ghost use Rattle.irr_rational.specs.Integer.{integer, whole_matrix};
 ghost use Rattle.irr_rational.specs.Rational.{Rational, rationals, ratio, IsWhole};
 ghost use Rattle.irr_rational.specs.Order.{◌≤ℚ◌, ◌<ℚ◌, IsFloor, IsBelow, IsAtMost};
-ghost use Rattle.irr_rational.specs.Ratio.{AreLowest, IsLowest};
+ghost use Rattle.irr_rational.specs.Ratio.{AreLowest, IsLowest, entry, ratios};
 
 use irr_algebra::{InField, InRing};
 
@@ -38,12 +38,13 @@ pub fn matrices_of_whole_numbers<N: InRing>()
 {}
 
 /// Each rational is a ratio of a whole number and a positive denominator, and two ratios are equal
-/// exactly where their cross products are.
+/// exactly where their cross products are. Over 0 a ratio is 0.
 pub fn ratio_of_rational()
     ensures exists { (x : Rational) → (a : ℤ) × (b : ℕ) × (0 < b) × (ratio a b ≡ x) }
     ensures same { (a c : ℤ) (b d : ℕ) → 0 < b → 0 < d → (ratio a b ≡ ratio c d) ↔ ((a *ℤ pos d) ≡ (c *ℤ pos b)) }
     ensures factor { (a : ℤ) (b k : ℕ) → 0 < b → 0 < k → ratio (pos k *ℤ a) (k * b) ≡ ratio a b }
     ensures whole_number { (k : ℤ) → integer rationals k ≡ ratio k 1 }
+    ensures none { (a : ℤ) → ratio a 0 ≡ rationals.zero }
 {}
 
 /// Ratios are added, multiplied and negated as fractions.
@@ -118,12 +119,13 @@ pub fn lexicographic_at_most()
 {}
 
 /// Each rational has one form in lowest terms, and whether a form is in lowest terms is decided: it is
-/// exactly where 1 is the greatest common divisor.
+/// exactly where 1 is the greatest common divisor, and the quotients by that divisor are.
 pub fn lowest_terms_of_rational()
     ensures exists { (x : Rational) → (a : ℤ) × (b : ℕ) × IsLowest a b × (ratio a b ≡ x) }
     ensures unique { (a c : ℤ) (b d : ℕ) → IsLowest a b → IsLowest c d → ratio a b ≡ ratio c d → (b ≡ d) × (a ≡ c) }
     ensures decided { (a : ℤ) (b : ℕ) → IsLowest a b ⊎ (IsLowest a b → ⊥) }
     ensures divisor { (a : ℤ) (b : ℕ) → 0 < b → IsLowest a b ↔ IsGcd (unsigned_abs a) b 1 }
+    ensures reduced { (a : ℤ) (b g : ℕ) → 0 < b → IsGcd (unsigned_abs a) b g → IsLowest (int_div a (pos g)) (b / g) × (ratio (int_div a (pos g)) (b / g) ≡ ratio a b) }
 {}
 
 /// Each list of rationals has one common form in lowest terms, and whether a form is is decided.
@@ -132,4 +134,12 @@ pub fn lowest_terms_of_rationals()
     ensures unique { (n : ℕ) (a c : Fin n → ℤ) (b d : ℕ) → AreLowest a b → AreLowest c d → ((i : Fin n) → ratio (a i) b ≡ ratio (c i) d)
         → (b ≡ d) × ((i : Fin n) → a i ≡ c i) }
     ensures decided { (n : ℕ) (a : Fin n → ℤ) (b : ℕ) → AreLowest a b ⊎ (AreLowest a b → ⊥) }
+{}
+
+/// Each n rationals have one list of n whole numbers that is them over a common denominator in lowest terms.
+pub fn listed_lowest_terms()
+    ensures exists { (n : ℕ) (f : Fin n → Rational)
+        → (xs : List ℤ) × (b : ℕ) × (length xs ≡ n) × AreLowest {n = n} (entry xs) b × ((i : Fin n) → ratios xs b i ≡ f i) }
+    ensures unique { (n : ℕ) (xs ys : List ℤ) (b d : ℕ) → length xs ≡ n → length ys ≡ n → AreLowest {n = n} (entry xs) b → AreLowest {n = n} (entry ys) d
+        → ((i : Fin n) → ratios xs b i ≡ ratios ys d i) → (b ≡ d) × (xs ≡ ys) }
 {}

@@ -1,5 +1,5 @@
 -- The form of one number.
-use Rattle.irr_rational.proofs.LowestTerms.{lowest_form, lowest_unique, lowest_decide, gcd_of_lowest, lowest_of_gcd}
+use Rattle.irr_rational.proofs.LowestTerms.{lowest_form, lowest_unique, lowest_decide, gcd_of_lowest, lowest_of_gcd, lowest_quotients}
 use Rattle.irr_rational.proofs.lowest_terms_of_rational.Goals as goal
 
 pub returns-clause-exists : goal.returns-clause-exists
@@ -13,3 +13,6 @@ returns-clause-decided c = lowest_decide
 
 pub returns-clause-divisor : goal.returns-clause-divisor
 returns-clause-divisor c = λ a b h. (gcd_of_lowest a b, lowest_of_gcd a b h)
+
+pub returns-clause-reduced : goal.returns-clause-reduced
+returns-clause-reduced c = lowest_quotients

@@ -1,5 +1,5 @@
 -- Rationals as ratios.
-use Rattle.irr_rational.proofs.Ratios.{ratio_of, ratio_same, cross_of_ratio, ratio-scale, integer-ratio}
+use Rattle.irr_rational.proofs.Ratios.{ratio_of, ratio_same, cross_of_ratio, ratio-scale, integer-ratio, ratio-none}
 use Rattle.irr_rational.proofs.ratio_of_rational.Goals as goal
 
 pub returns-clause-exists : goal.returns-clause-exists
@@ -13,3 +13,6 @@ returns-clause-factor c = ratio-scale
 
 pub returns-clause-whole_number : goal.returns-clause-whole_number
 returns-clause-whole_number c = integer-ratio
+
+pub returns-clause-none : goal.returns-clause-none
+returns-clause-none c = ratio-none

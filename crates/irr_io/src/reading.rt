@@ -1,0 +1,131 @@
+// Sources, and reading one to its end.
+ghost use Rattle.std.specs.Prelude.{◌≡◌, ℕ, List, Option, ◌+◌, ◌<◌, ◌≤◌, ⊤, length, take, drop, IfOk, OnOk, OnErr, IsErrOf, vec_len};
+ghost use Rattle.irr_io.specs.declared.reading.InFault.TheVariants.{Read, Memory};
+ghost use Rattle.irr_io.specs.Count.{Rose, NeverFalls, CountsOne, CountsAtMost};
+ghost use Rattle.irr_io.specs.Told.{IsAtEnd, Takes, TakesAll, Took};
+
+use crate::Failed;
+use std::alloc::{AllocError, Global};
+use thiserror::Error;
+
+/// What gives bytes.
+pub trait Source {
+    // The bytes that are still to come, where they are told.
+    ghost left: { Self → Option (List ℕ) };
+
+    // How many reads failed, as a count of 64 bits.
+    ghost faults: { Self → ℕ };
+
+    // How many reads there were, where that is told.
+    ghost reads: { Self → Option ℕ };
+
+    /// Puts the next bytes at the start of `buf` and returns how many, which is 0 only at the end of
+    /// input or where `buf` is empty.
+    fn read(&mut self, buf: &mut [u8]) -> Result<usize, Failed>
+        ensures fits { IfOk result (λ n. n ≤ length buf.new) }
+        ensures taken { IfOk result (λ n. Takes (left self.old) (left self.new) (take n buf.new)) }
+        ensures end { IfOk result (λ n. n ≡ 0 → 0 < length buf.old → IsAtEnd (left self.new)) }
+        ensures kept { OnErr result (left self.new ≡ left self.old) }
+        ensures failed { OnErr result (Rose (faults self.old) (faults self.new)) }
+        ensures never_falls { NeverFalls (faults self.old) (faults self.new) }
+        ensures counted { CountsOne (reads self.old) (reads self.new) };
+}
+
+/// Why a source was not read to its end.
+#[derive(Clone, Copy, Debug, PartialEq, Eq, Error)]
+pub enum InFault {
+    /// A read failed.
+    #[error("a read failed")]
+    Read,
+    /// More bytes came than the limit allows.
+    #[error("more bytes than the limit")]
+    TooLong,
+    /// Memory was wanting.
+    #[error("out of memory")]
+    Memory,
+}
+
+impl From<Failed> for InFault {
+    ghost from_gives = { λ _ fault. fault ≡ Read };
+
+    fn from(_failed: Failed) -> InFault {
+        InFault::Read
+    }
+}
+
+impl From<AllocError> for InFault {
+    ghost from_gives = { λ _ fault. fault ≡ Memory };
+
+    fn from(_refused: AllocError) -> InFault {
+        InFault::Memory
+    }
+}
+
+const FIRST_ROOM: usize = 64 * 1024;
+
+/// Reads `source` to its end, and returns all bytes, at most `limit` of them.
+pub fn read_all<I: Source>(alloc: Global, source: &mut I, limit: usize) -> Result<Vec<u8>, InFault>
+    ensures all { IfOk result (λ bytes. TakesAll (I.left source.old) (I.left source.new) bytes.items) }
+    ensures within { IfOk result (λ bytes. vec_len bytes ≤ limit) }
+
+    // Too long only after more than `limit` bytes came, and a failed read only before.
+    ensures too_long { IsErrOf result InFault.TooLong
+        → Took (I.left source.old) (I.left source.new) (λ piece. limit < length piece) }
+    ensures read { IsErrOf result InFault.Read
+        → Took (I.left source.old) (I.left source.new) (λ piece. length piece ≤ limit) }
+    ensures failed { IsErrOf result InFault.Read → Rose (I.faults source.old) (I.faults source.new) }
+
+    // What is left after a refusal is a rear part of what was left.
+    ensures suffix { OnErr result (Took (I.left source.old) (I.left source.new) (λ _. ⊤)) }
+
+    ensures never_falls { NeverFalls (I.faults source.old) (I.faults source.new) }
+    ensures reads { CountsAtMost (limit + 2) (I.reads source.old) (I.reads source.new) }
+{
+    let mut bytes = Vec::new(alloc);
+    let mut filled = 0;
+    while filled <= limit {
+        make_room(&mut bytes, filled, limit)?;
+        let n = read_after(source, &mut bytes, filled)?;
+        if n == 0 {
+            bytes.truncate(filled);
+            return Ok(bytes);
+        }
+        filled += n;
+    }
+    Err(InFault::TooLong)
+}
+
+// One read, into `bytes` after the first `filled`.
+fn read_after<I: Source>(
+    source: &mut I,
+    bytes: &mut Vec<u8>,
+    filled: usize,
+) -> Result<usize, Failed>
+    requires { filled < vec_len bytes.old }
+    ensures front { take filled bytes.new.items ≡ take filled bytes.old.items }
+    ensures fits { IfOk result (λ n. filled + n ≤ length bytes.new.items) }
+    ensures taken { IfOk result (λ n. Takes (I.left source.old) (I.left source.new) (take n (drop filled bytes.new.items))) }
+    ensures end { IfOk result (λ n. n ≡ 0 → IsAtEnd (I.left source.new)) }
+    ensures kept { OnErr result (I.left source.new ≡ I.left source.old) }
+    ensures failed { OnErr result (Rose (I.faults source.old) (I.faults source.new)) }
+    ensures never_falls { NeverFalls (I.faults source.old) (I.faults source.new) }
+    ensures counted { CountsOne (I.reads source.old) (I.reads source.new) }
+{
+    source.read(&mut bytes[filled..])
+}
+
+// Where the first `filled` are all of `bytes`, makes it longer by zeros: to twice its length, or to
+// `limit` bytes and one more.
+fn make_room(bytes: &mut Vec<u8>, filled: usize, limit: usize) -> Result<(), AllocError>
+    requires within { filled ≤ vec_len bytes.old }
+    requires below { filled ≤ limit }
+    ensures front { take filled bytes.new.items ≡ take filled bytes.old.items }
+    ensures within { filled ≤ vec_len bytes.new }
+    ensures room { OnOk result (filled < vec_len bytes.new) }
+{
+    if filled < bytes.len() {
+        return Ok(());
+    }
+    let more = filled.max(FIRST_ROOM - 1).min(limit - filled);
+    bytes.resize(filled + more + 1, 0)
+}

@@ -1,0 +1,4 @@
+pub mod StatusCode
+pub mod Command
+pub mod RefusalText
+pub mod Asked

@@ -1,0 +1,27 @@
+-- The lines that tell of a refusal: this project's own.
+--   refusal_text s     the line of a status that has one, with its line feed, and nothing for another status
+use Rattle.std.specs.Prelude.{ℕ, suc, List, [], ◌∷◌, ◌++◌, codes}
+use Rattle.std.specs.Fmt.{decimal}
+use Rattle.irr_top.specs.declared.status.Status.{Status}
+use Rattle.irr_top.specs.declared.status.Status.TheVariants.{Done, Usage, BadInput, TooLarge, ReadFault, WriteFault, Memory}
+use Rattle.irr_top.specs.declared.status.Reason.{Reason}
+use Rattle.irr_top.specs.declared.status.Reason.TheVariants.{Shape}
+use Rattle.irr_top.specs.declared.status.Kind.{Kind}
+use Rattle.irr_top.specs.declared.status.Kind.TheVariants.{Bytes, Order}
+
+-- the reason, with a column, which counts from 1
+abbrev pub reason_text : Reason → List ℕ
+reason_text (Shape place) = codes "shape " ++ decimal (suc place)
+
+abbrev pub kind_text : Kind → List ℕ
+kind_text Bytes = codes "bytes"
+kind_text (Order n) = codes "order " ++ decimal n
+
+abbrev pub refusal_text : Status → List ℕ
+refusal_text Done = []
+refusal_text (Usage n) = codes "usage " ++ decimal n ++ 10 ∷ []
+refusal_text (BadInput line reason) = codes "bad input line " ++ decimal line ++ codes ": " ++ reason_text reason ++ 10 ∷ []
+refusal_text (TooLarge kind) = codes "too large: " ++ kind_text kind ++ 10 ∷ []
+refusal_text ReadFault = []
+refusal_text WriteFault = []
+refusal_text Memory = []

@@ -1,0 +1,58 @@
+// How a run ends.
+
+/// Which limit was passed.
+#[derive(Clone, Copy, Debug, PartialEq, Eq)]
+pub enum Kind {
+    /// More than 4,194,304 bytes of input.
+    Bytes,
+    /// The order of the numbers, which is above 12,000.
+    Order(u64),
+}
+
+/// Why a line is faulty.
+#[derive(Clone, Copy, Debug, PartialEq, Eq)]
+pub enum Reason {
+    /// The line leaves the grammar at this place, counted in bytes from 0.
+    Shape(u64),
+}
+
+/// How a run ends.
+#[derive(Clone, Copy, Debug, PartialEq, Eq)]
+pub enum Status {
+    /// The text that was asked for is written.
+    Done,
+    /// The words are no command: the word of this number, counted from 1, is wrong, superfluous or missing.
+    Usage(u32),
+    /// The first faulty line of the input, counted from 1.
+    BadInput {
+        line: u64,
+        reason: Reason,
+    },
+    /// A limit was passed.
+    TooLarge(Kind),
+    /// A read failed.
+    ReadFault,
+    /// A write failed.
+    WriteFault,
+    /// Memory was wanting. Nothing is written then.
+    Memory,
+}
+
+impl Status {
+    ghost use Rattle.irr_top.specs.StatusCode.{code_of};
+
+    /// The exit status of a program that ends so.
+    pub fn code(&self) -> u8
+        ensures { result ≡ code_of self.now }
+    {
+        match self {
+            Status::Done => 0,
+            Status::Usage(_) => 2,
+            Status::BadInput { .. } => 3,
+            Status::TooLarge(_) => 4,
+            Status::ReadFault => 5,
+            Status::WriteFault => 6,
+            Status::Memory => 7,
+        }
+    }
+}
