@@ -3,12 +3,12 @@
 --   denominator N x      its denominator
 --   size N x             the sum of the absolute coefficients, over the denominator
 --   coefficient N x j    the rational coefficient of x at z^j in the basis
+--   over N f d p         the fraction with the coefficients f 0, .., f (N-1) over d
 --   number_of N xs d     the number that the coefficients xs over d stand for, and 0 where d is 0
-use Rattle.std.specs.Prelude.{ℕ, ℤ, ◌≡◌, ◌<◌, ◌+◌, zero, suc, List, slice_index_or, pos}
+use Rattle.std.specs.Prelude.{ℕ, ℤ, ◌<◌, ◌+◌, zero, suc, List, slice_index_or, pos}
 use Rattle.std.specs.Int.RustNames.{unsigned_abs}
 use Rattle.std.proofs.Math.Nat.{zero-lt-suc}
 use native.Mathlib.Decide.{dec_lt}
-use Rattle.irr_algebra.specs.Listed.{sum_below}
 use Rattle.irr_number.specs.Algebra.{algebra}
 use Rattle.irr_number.specs.Element.{Element, element, power}
 use Rattle.irr_number.specs.Fraction.{Fraction, over_one}
@@ -42,7 +42,11 @@ size N x = total_below N (λ j. unsigned_abs ((canonical N x).num.at j))
 unfoldable pub coefficient : (N : ℕ) → Number N → ℕ → Rational
 coefficient N x j = ratio ((canonical N x).num.at j) (denominator N x)
 
+-- the coefficients f over d
+abbrev pub over : (N : ℕ) → (ℕ → ℤ) → (d : ℕ) → 0 < d → Fraction (Element N)
+over N f d p = record { num = element N f; den = d; den_pos = p }
+
 -- the number that coefficients over a denominator stand for, and 0 where the denominator is 0
 unfoldable pub number_of : (N : ℕ) → List ℤ → ℕ → Number N
 number_of N xs zero = (numbers N).zero
-number_of N xs (suc d) = number N (record { num = element N (λ j. slice_index_or xs j (pos 0)); den = suc d; den_pos = zero-lt-suc d })
+number_of N xs (suc d) = number N (over N (λ j. slice_index_or xs j (pos 0)) (suc d) (zero-lt-suc d))

@@ -1,1 +1,4 @@
 pub mod Coefficient
+pub mod PowerSum
+pub mod Reduction
+pub mod RootSum
