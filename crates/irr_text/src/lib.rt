@@ -1,2 +1,14 @@
 //! The printed forms of numbers, wave vectors, operations and reports, as definitions.
 #![tactic(auto)]
+
+ghost use Rattle.std.specs.Prelude.{ℕ, ℤ, ◌≡◌};
+ghost use Rattle.irr_rational.specs.Rational.{Rational, ratio};
+ghost use Rattle.irr_rational.specs.Ratio.{IsLowest};
+ghost use Rattle.irr_canonical.specs.Coefficient.{denominator};
+ghost use Rattle.irr_text.specs.NumberText.{numerator, rational_text, fraction_text};
+
+/// A rational number is printed in lowest terms.
+pub fn text_in_lowest_terms()
+    ensures lowest { (x : Rational) → IsLowest (numerator x) (denominator 1 x) × (ratio (numerator x) (denominator 1 x) ≡ x) }
+    ensures text { (a : ℤ) (b : ℕ) → IsLowest a b → rational_text (ratio a b) ≡ fraction_text a b }
+{}

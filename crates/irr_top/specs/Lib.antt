@@ -2,3 +2,5 @@ pub mod StatusCode
 pub mod Command
 pub mod RefusalText
 pub mod Asked
+pub mod Answered
+pub mod Ended

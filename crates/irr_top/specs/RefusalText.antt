@@ -1,6 +1,7 @@
 -- The lines that tell of a refusal: this project's own.
 --   refusal_text s     the line of a status that has one, with its line feed, and nothing for another status
-use Rattle.std.specs.Prelude.{ℕ, suc, List, [], ◌∷◌, ◌++◌, codes}
+--   HasLine s          s is a refusal that has a line
+use Rattle.std.specs.Prelude.{ℕ, suc, ⊤, List, [], ◌∷◌, ◌++◌, codes}
 use Rattle.std.specs.Fmt.{decimal}
 use Rattle.irr_top.specs.declared.status.Status.{Status}
 use Rattle.irr_top.specs.declared.status.Status.TheVariants.{Done, Usage, BadInput, TooLarge, ReadFault, WriteFault, Memory}
@@ -25,3 +26,13 @@ refusal_text (TooLarge kind) = codes "too large: " ++ kind_text kind ++ 10 ∷ [
 refusal_text ReadFault = []
 refusal_text WriteFault = []
 refusal_text Memory = []
+
+-- a refusal that has a line
+abbrev pub HasLine : Status → Type 0
+HasLine Done = ⊥
+HasLine (Usage n) = ⊤
+HasLine (BadInput line reason) = ⊤
+HasLine (TooLarge kind) = ⊤
+HasLine ReadFault = ⊥
+HasLine WriteFault = ⊥
+HasLine Memory = ⊥

@@ -1,4 +1,5 @@
 // How a run ends.
+ghost use Rattle.std.specs.Prelude.{◌≡◌};
 
 /// Which limit was passed.
 #[derive(Clone, Copy, Debug, PartialEq, Eq)]

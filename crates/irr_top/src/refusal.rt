@@ -1,0 +1,65 @@
+// The lines that tell of a refusal.
+ghost use Rattle.std.specs.Prelude.{◌≡◌, IfOk, string_bytes};
+ghost use Rattle.irr_top.specs.RefusalText.{HasLine, refusal_text};
+ghost use Rattle.irr_top.specs.Ended.{Ended};
+
+use crate::status::{Kind, Reason, Status};
+use irr_io::{Sink, write_all};
+use irr_memory::Memory;
+use std::alloc::{AllocError, Global};
+
+/// The line of a refusal that has one, with its line feed.
+pub fn text_refusal(alloc: Global, status: &Status) -> Result<Vec<u8>, Memory>
+    requires { HasLine status.now }
+    ensures { IfOk result (λ text. text.items ≡ refusal_text status.now) }
+{
+    Ok(line(alloc, status)?.into_bytes())
+}
+
+fn line(alloc: Global, status: &Status) -> Result<String, AllocError>
+    requires { HasLine status.now }
+    ensures { IfOk result (λ text. string_bytes text ≡ refusal_text status.now) }
+{
+    match status {
+        Status::Usage(n) => format!(in alloc; "usage {n}\n"),
+        Status::BadInput { line, reason } => bad_line(alloc, *line, *reason),
+        Status::TooLarge(Kind::Bytes) => format!(in alloc; "too large: bytes\n"),
+        Status::TooLarge(Kind::Order(n)) => format!(in alloc; "too large: order {n}\n"),
+        Status::Done | Status::ReadFault | Status::WriteFault | Status::Memory => {
+            String::from_str(alloc, "")
+        }
+    }
+}
+
+// The line of a faulty input. Columns count from 1.
+fn bad_line(alloc: Global, line: u64, reason: Reason) -> Result<String, AllocError>
+    ensures { IfOk result (λ text. string_bytes text ≡ refusal_text (Status.BadInput line reason)) }
+{
+    match reason {
+        Reason::Shape(place) => {
+            let column = u128::from(place) + 1;
+            format!(in alloc; "bad input line {line}: shape {column}\n")
+        }
+    }
+}
+
+/// Writes a text, and ends with its status.
+pub fn finish<O: Sink>(status: Status, text: &[u8], sink: &mut O) -> Status
+    ensures { Ended status text.now (O.faults sink.old) (O.faults sink.new) (O.held sink.old) (O.held sink.new) (O.writes sink.old) (O.writes sink.new) result }
+{
+    match write_all(sink, text) {
+        Ok(()) => status,
+        Err(_) => Status::WriteFault,
+    }
+}
+
+/// Writes the line of a refusal, and ends with it.
+pub fn refuse<O: Sink>(alloc: Global, status: Status, sink: &mut O) -> Status
+    requires { HasLine status }
+    ensures { Ended status (refusal_text status) (O.faults sink.old) (O.faults sink.new) (O.held sink.old) (O.held sink.new) (O.writes sink.old) (O.writes sink.new) result }
+{
+    match text_refusal(alloc, &status) {
+        Ok(text) => finish(status, &text, sink),
+        Err(_) => Status::Memory,
+    }
+}
