@@ -1,7 +1,6 @@
 // A source and a sink over memory, which fail where they are told to.
-ghost use Rattle.std.specs.Prelude.{◌≡◌, ℕ, List, [], Option, Some, ◌+◌, ◌-◌, ◌^◌, ◌<◌, ◌≤◌, ◌⊎◌, ◌↔◌, ◌++◌, min, length, take, drop, IfOk, OnErr, IsErr, Contains};
-ghost use Rattle.irr_io.specs.Count.{one_more, Rose, NeverFalls, CountsOne};
-ghost use Rattle.irr_io.specs.Told.{IsAtEnd, Takes, Gains};
+ghost use Rattle.std.specs.Prelude.{◌≡◌, [], Some, ◌-◌, ◌<◌, ◌≤◌, ◌⊎◌, ◌↔◌, ◌++◌, min, length, take, IfOk, OnErr, IsErr, Contains};
+ghost use Rattle.irr_io.specs.Count.{one_more, Rose, NeverFalls};
 
 use crate::{Failed, Memory, Sink, Source};
 use std::alloc::Global;

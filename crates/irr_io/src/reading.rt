@@ -20,7 +20,7 @@ pub trait Source {
     ghost reads: { Self → Option ℕ };
 
     /// Puts the next bytes at the start of `buf` and returns how many, which is 0 only at the end of
-    /// input or where `buf` is empty.
+    /// input or where `buf` is empty. A read that fails is counted and takes nothing.
     fn read(&mut self, buf: &mut [u8]) -> Result<usize, Failed>
         ensures fits { IfOk result (λ n. n ≤ length buf.new) }
         ensures taken { IfOk result (λ n. Takes (left self.old) (left self.new) (take n buf.new)) }
@@ -63,15 +63,16 @@ impl From<AllocError> for InFault {
 
 const FIRST_ROOM: usize = 64 * 1024;
 
-/// Reads `source` to its end, and returns all bytes, at most `limit` of them.
+/// Reads `source` to its end, and returns all bytes, at most `limit` of them. Refused at the first
+/// read that fails, as soon as more bytes came, and for want of memory.
 pub fn read_all<I: Source>(alloc: Global, source: &mut I, limit: usize) -> Result<Vec<u8>, InFault>
     ensures all { IfOk result (λ bytes. TakesAll (I.left source.old) (I.left source.new) bytes.items) }
     ensures within { IfOk result (λ bytes. vec_len bytes ≤ limit) }
 
-    // Too long only after more than `limit` bytes came, and a failed read only before.
+    // Too long only after more than `limit` bytes came, and a failed read only before that.
     ensures too_long { IsErrOf result InFault.TooLong
         → Took (I.left source.old) (I.left source.new) (λ piece. limit < length piece) }
-    ensures read { IsErrOf result InFault.Read
+    ensures early { IsErrOf result InFault.Read
         → Took (I.left source.old) (I.left source.new) (λ piece. length piece ≤ limit) }
     ensures failed { IsErrOf result InFault.Read → Rose (I.faults source.old) (I.faults source.new) }
 

@@ -18,7 +18,7 @@ pub trait Sink {
     ghost writes: { Self → Option ℕ };
 
     /// Takes some bytes from the front of `piece`, at least one unless it is empty, and returns how
-    /// many.
+    /// many. A write that fails is counted and takes nothing.
     fn write(&mut self, piece: &[u8]) -> Result<usize, Failed>
         ensures fits { IfOk result (λ n. n ≤ length piece.now) }
         ensures progress { IfOk result (λ n. 0 < length piece.now → 0 < n) }

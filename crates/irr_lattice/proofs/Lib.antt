@@ -2,3 +2,4 @@ pub mod Vectors
 pub mod Translations
 pub mod Reciprocals
 pub mod OneOperation
+pub mod ReportOfOne

@@ -2,14 +2,17 @@
 //! and the one representation at each of them.
 #![tactic(auto)]
 
-ghost use Rattle.std.specs.Prelude.{◌≡◌, ◌↔◌, ◌<◌, ℕ, ℤ, []};
+ghost use Rattle.std.specs.Prelude.{◌≡◌, ◌↔◌, ◌<◌, ◌++◌, ℕ, ℤ, [], codes};
+ghost use Rattle.std.specs.Fmt.{decimal};
 ghost use Rattle.irr_algebra.specs.Fin.{Fin};
 ghost use Rattle.irr_rational.specs.Rational.{IsWhole, ratio};
 ghost use Rattle.irr_rational.specs.Ratio.{AreLowest};
 ghost use Rattle.irr_space.specs.Operation.{Vector, WaveVector, component, wave_component, identity};
 ghost use Rattle.irr_space.specs.SpaceGroup.{Generated, IsTranslation};
-ghost use Rattle.irr_space.specs.Reciprocal.{IsReciprocal, IsOrder, Sign};
+ghost use Rattle.irr_space.specs.Reciprocal.{IsReciprocal, IsOrder, IsReduced, Sign};
 ghost use Rattle.irr_space.specs.CanonicalOperation.{IsNumbering};
+ghost use Rattle.irr_text.specs.WaveText.{wave_text};
+ghost use Rattle.irr_text.specs.ReportText.{ReportContent, report_text, IsReportOf};
 ghost use Rattle.irr_space.specs.Star.{IsInLittleGroup};
 ghost use Rattle.irr_space.specs.PhaseTable.{PhaseTable, IsTableOf, phases_at};
 ghost use Rattle.irr_space.specs.CompleteList.{IsCompleteList, IsInOrder};
@@ -33,4 +36,10 @@ pub fn representations_of_no_generators()
     ensures numbering { (k : WaveVector) → IsNumbering (Generated []) (IsInLittleGroup (Generated []) k) {h = 1} (λ i. identity) }
     ensures complete { (s : Sign) (k : WaveVector) (n : ℕ) → 0 < n → IsOrder (Generated []) k n → (T : PhaseTable 1) × (L : Representations (phases_at T)) ×
         IsTableOf s (Generated []) k (λ i. identity) T × IsCompleteList T L × IsInOrder T L × (L.count ≡ 1) }
+{}
+
+/// So each wave vector has a report, of one operation and one representation.
+pub fn reports_of_no_generators()
+    ensures { (s : Sign) (k w : WaveVector) (n : ℕ) → 0 < n → IsReduced (Generated []) k w → IsOrder (Generated []) w n → (r : ReportContent) × IsReportOf s (Generated []) k r
+        × (report_text r ≡ codes "report 1\nwave " ++ (wave_text w ++ (codes "\norder " ++ (decimal n ++ codes "\nops 1\nop 1 x,y,z\nreps 1\nrep S1 dim 1\nchar 1\nmat 1 1\nend\n")))) }
 {}

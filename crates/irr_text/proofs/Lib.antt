@@ -1,1 +1,2 @@
 pub mod RationalForm
+pub mod OneText

@@ -4,18 +4,14 @@
 --   denominator-lowest       b is its denominator
 --   rational_text-lowest     so its text is that of a and b
 --   lowest-numerator         numerator and denominator of a rational are in lowest terms, and the number is their ratio
-use Rattle.std.proofs.Common.{◌≡◌, sym, ◌∙◌, ap, ap₂, subst, refl, ℕ, ℤ, pos, zero, suc, ◌<◌, ◌≤◌, ◌-◌, ◌/◌, ◌%◌, ◌^◌, arith, lit<}
-use Rattle.std.specs.Int.{◌∣◌}
-use Rattle.std.specs.Int.RustNames.{unsigned_abs}
+use Rattle.std.proofs.Common.{◌≡◌, sym, ◌∙◌, ap, ap₂, subst, refl, ℕ, ℤ, zero, suc, ◌<◌, ◌-◌, ◌/◌, ◌%◌, ◌^◌, arith}
 use native.Mathlib.Nat as Nat
-use Rattle.irr_algebra.specs.Ring.{Ring, whole}
 use Rattle.irr_algebra.specs.Listed.{sum_below}
-use Rattle.irr_algebra.proofs.Rings.{ring_laws, zero-add}
-use Rattle.irr_number.specs.Basis.{InBasis, IsCanonical, IsHighestPower}
-use Rattle.irr_number.specs.Element.{Element, element}
+use Rattle.irr_algebra.proofs.Rings.{zero-add}
+use Rattle.irr_number.specs.Basis.{InBasis, IsCanonical}
+use Rattle.irr_number.specs.Element.{Element}
 use Rattle.irr_number.specs.Fraction.{Fraction}
-use Rattle.irr_number.specs.Number.{Number, number, numbers, root_power}
-use Rattle.irr_number.specs.Prime.{IsPrime}
+use Rattle.irr_number.specs.Number.{number, root_power}
 use Rattle.irr_number.specs.Algebra.{at-element}
 use Rattle.irr_number.proofs.RootPowers.{root_power-zero}
 use Rattle.irr_rational.specs.Integer.{integer}

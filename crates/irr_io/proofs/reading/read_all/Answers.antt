@@ -1,3 +1,4 @@
+-- After a read that put some bytes behind the first, the front is longer.
 use Rattle.std.proofs.Common.{rules}
 use Rattle.irr_io.proofs.SoFar.{FilledSoFar-more}
 use Rattle.irr_io.proofs.reading.read_all.Goals as goal

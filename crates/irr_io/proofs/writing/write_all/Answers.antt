@@ -1,3 +1,4 @@
+-- After a write that took some bytes of the rest, more of them are written.
 use Rattle.std.proofs.Common.{rules}
 use Rattle.std.proofs.lemmas.List.{take_rest}
 use Rattle.irr_io.proofs.SoFar.{WrittenSoFar-more}
