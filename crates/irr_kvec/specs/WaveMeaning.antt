@@ -5,7 +5,7 @@ use Rattle.std.specs.Prelude.{ℕ, ℤ, List}
 use Rattle.irr_algebra.specs.Fin.{Fin}
 use Rattle.irr_rational.specs.Ratio.{ratios}
 use Rattle.irr_space.specs.Operation.{WaveVector}
-use Rattle.irr_kvec.specs.declared.Wave.{Wave}
+use Rattle.irr_kvec.specs.declared.wave.Wave.{Wave}
 
 unfoldable pub wave_of : List ℤ → ℕ → WaveVector
 wave_of num den = record { at = λ j i. ratios num den i }

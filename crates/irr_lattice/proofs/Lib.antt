@@ -3,3 +3,4 @@ pub mod Translations
 pub mod Reciprocals
 pub mod OneOperation
 pub mod ReportOfOne
+pub mod Remainders

@@ -1,0 +1,5 @@
+pub mod Multiples
+pub mod LowestForms
+pub mod Vectors
+pub mod Lexicographic
+pub mod Reduction

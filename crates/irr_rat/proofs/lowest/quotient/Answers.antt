@@ -1,0 +1,11 @@
+use Rattle.std.proofs.Common.{◌∙◌, ap, ap₂, pos, to_z, of_z, arith}
+use Rattle.std.specs.Int.{w128}
+use Rattle.std.specs.Int.RustNames.{int_div}
+use Rattle.std.proofs.lemmas.Int.{ints, to_z-of_z, to_z_pos, quot_fits}
+use Rattle.irr_rat.proofs.lowest.quotient.Goals as goal
+
+pub returns : goal.returns
+returns c =
+    let small = c.ranges.divisor.fits in
+    ap (λ a. to_z w128 (of_z w128 a)) (ap₂ int_div (to_z-of_z w128 c.args.number c.ranges.number) (to_z_pos w128 c.args.divisor (omega arith)))
+    ∙ to_z-of_z w128 (int_div c.args.number (pos c.args.divisor)) (quot_fits w128 c.args.number (pos c.args.divisor) c.ranges.number (omega (arith, ints, c.requires)))

@@ -1,0 +1,3 @@
+pub mod Lcm
+pub mod Lowest
+pub mod VectorMeaning

@@ -1,0 +1,11 @@
+pub mod Readings
+pub mod PrimitiveRoots
+pub mod ElementOrders
+pub mod Cycles
+pub mod Rows
+pub mod UnitColumns
+pub mod Members
+pub mod Restrictions
+pub mod Subtables
+pub mod Listed
+pub mod Trials

@@ -1,0 +1,4 @@
+pub mod Table
+pub mod TableLaws
+pub mod Subgroup
+pub mod Twisted

@@ -1,0 +1,13 @@
+//! Tables of phases in the program: the products and phases of a little group's operations modulo the
+//! translations.
+#![tactic(auto)]
+
+mod cycle;
+mod lists;
+mod subgroup;
+mod table;
+
+pub use cycle::cycles_of_places;
+pub use lists::lists_of_tables;
+pub use subgroup::restrictions_are_subtables;
+pub use table::{ORDER_LIMIT, PLACES_LIMIT, Twisted};
