@@ -4,3 +4,4 @@ pub mod RefusalText
 pub mod Asked
 pub mod Answered
 pub mod Ended
+pub mod Outcome

@@ -1,10 +1,15 @@
 //! The top call: words, an input and what is written.
 #![tactic(auto)]
 
+mod answer;
+mod reduced;
 mod refusal;
 mod status;
 mod top;
+mod wave;
+mod words;
 
 pub use refusal::text_refusal;
 pub use status::{Kind, Reason, Status};
 pub use top::run;
+pub use words::words_mean_one_thing;

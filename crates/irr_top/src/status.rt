@@ -25,10 +25,7 @@ pub enum Status {
     /// The words are no command: the word of this number, counted from 1, is wrong, superfluous or missing.
     Usage(u32),
     /// The first faulty line of the input, counted from 1.
-    BadInput {
-        line: u64,
-        reason: Reason,
-    },
+    BadInput { line: u64, reason: Reason },
     /// A limit was passed.
     TooLarge(Kind),
     /// A read failed.

@@ -6,7 +6,10 @@ ghost use Rattle.irr_top.specs.Command.{IsCommand, IsFaulty};
 ghost use Rattle.irr_top.specs.Asked.{Asks, input_limit};
 ghost use Rattle.irr_top.specs.Answered.{HasText, Answers, CutOff, Streams};
 
+use crate::answer::small;
+use crate::refusal::refuse;
 use crate::status::Status;
+use crate::words::command;
 use irr_io::{Sink, Source};
 use std::alloc::Global;
 
@@ -37,5 +40,8 @@ pub fn run<I: Source, O: Sink>(
     ensures end { result ≡ Status.Done → IsAtEnd (I.left source.new) }
     ensures reads { CountsAtMost (input_limit + 2) (I.reads source.old) (I.reads source.new) }
 {
-    Status::Memory
+    match command(words) {
+        Ok(wave) => small(alloc, &wave, source, sink),
+        Err(n) => refuse(alloc, Status::Usage(n), sink),
+    }
 }

@@ -1,0 +1,9 @@
+pub mod FractionTexts
+pub mod CommonTerms
+pub mod WaveForms
+pub mod WaveReading
+pub mod WordPlaces
+pub mod OneAnswer
+pub mod Orders
+pub mod InputBytes
+pub mod Outcomes
