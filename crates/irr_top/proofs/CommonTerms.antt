@@ -3,7 +3,7 @@
 --   three_gcd, three_lowest  the same of three numbers, step by step
 --   scaled_fits              a numerator times two denominators within the limit
 --   ratio_scaled             a factor before numerator and denominator
-use Rattle.std.proofs.Common.{◌≡◌, sym, ◌∙◌, ap, ap₂, subst, refl, ℕ, zero, suc, ◌<◌, ◌≤◌, ◌*◌, ◌/◌, ◌^◌, ℤ, pos, ◌*ℤ◌, FitsSigned, w64, arith, List, [], ◌∷◌, get_or}
+use Rattle.std.proofs.Common.{◌≡◌, sym, ◌∙◌, ap, ap₂, subst, ℕ, ◌<◌, ◌≤◌, ◌*◌, ◌/◌, ℤ, pos, ◌*ℤ◌, FitsSigned, w64, arith, List, [], ◌∷◌, get_or}
 use mathlib.Core.Path.{fun_ext}
 use Rattle.std.proofs.lemmas.Int.{unsigned_abs-mul, fits_signed_from_abs}
 use Rattle.std.specs.Int.{◌∣◌, IsGcd}

@@ -1,9 +1,8 @@
 -- What a run leaves behind.
---   Streams                                what a contract sees of a source and a sink before and after a call
+--   Streams, streams                       what a contract sees of a source and a sink before and after a call
 --   HasText s                              a status that comes with a text: Done, and each refusal that has a line
 --   Answers words io s                     the words and all bytes of the input, where they are told, ask for s, and its text was written
 --   CutOff words io                        a front of the text that they ask for was written
---   Yields s t                             s, or want of memory
 use Rattle.std.specs.Prelude.{ℕ, ◌≡◌, ⊤, ◌⊎◌, Option, List, length}
 use Rattle.std.specs.Io.{StartsWith}
 use Rattle.irr_io.specs.Count.{CountsAtMost}
@@ -28,6 +27,9 @@ pub record Streams : Type 0 where
   pub holds : Option (List ℕ)
   pub wrote : Option ℕ
   pub writes : Option ℕ
+
+abbrev pub streams : (left held holds : Option (List ℕ)) (wrote writes : Option ℕ) → Streams
+streams left held holds wrote writes = record { left = left; held = held; holds = holds; wrote = wrote; writes = writes }
 
 pub record Answers (words : List (List ℕ)) (io : Streams) (s : Status) : Type 0 where
   pub bytes : List ℕ

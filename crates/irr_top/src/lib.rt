@@ -13,3 +13,6 @@ pub use refusal::text_refusal;
 pub use status::{Kind, Reason, Status};
 pub use top::run;
 pub use words::words_mean_one_thing;
+
+#[cfg(test)]
+mod tests;

@@ -4,7 +4,7 @@ ghost use Rattle.irr_io.specs.Count.{Rose, CountsAtMost};
 ghost use Rattle.irr_io.specs.Told.{IsAtEnd};
 ghost use Rattle.irr_top.specs.Command.{IsCommand, IsFaulty};
 ghost use Rattle.irr_top.specs.Asked.{Asks, input_limit};
-ghost use Rattle.irr_top.specs.Answered.{HasText, Answers, CutOff, Streams};
+ghost use Rattle.irr_top.specs.Answered.{HasText, Answers, CutOff, streams};
 
 use crate::answer::small;
 use crate::refusal::refuse;
@@ -22,19 +22,28 @@ pub fn run<I: Source, O: Sink>(
     sink: &mut O,
 ) -> Status
     // What comes with a text is what the words and the whole input ask for, and this text was written.
-    ensures answered { HasText result → Answers (map (λ w. w.items) words.now) (record { left = I.left source.old; held = O.held sink.old; holds = O.held sink.new; wrote = O.writes sink.old; writes = O.writes sink.new }) result }
+    ensures answered { HasText result →
+        Answers (map (λ w. w.items) words.now)
+        (streams (I.left source.old) (O.held sink.old) (O.held sink.new) (O.writes sink.old) (O.writes sink.new))
+        result }
 
     // A fault of a stream is reported only where the stream counted one.
-    ensures read_fault { result ≡ Status.ReadFault → IsCommand (map (λ w. w.items) words.now) × Rose (I.faults source.old) (I.faults source.new) × (O.held sink.new ≡ O.held sink.old) }
-    ensures write_fault { result ≡ Status.WriteFault → Rose (O.faults sink.old) (O.faults sink.new)
-        × CutOff (map (λ w. w.items) words.now) (record { left = I.left source.old; held = O.held sink.old; holds = O.held sink.new; wrote = O.writes sink.old; writes = O.writes sink.new }) }
+    ensures read_fault { result ≡ Status.ReadFault →
+        IsCommand (map (λ w. w.items) words.now)
+        × Rose (I.faults source.old) (I.faults source.new)
+        × (O.held sink.new ≡ O.held sink.old) }
+    ensures write_fault { result ≡ Status.WriteFault →
+        Rose (O.faults sink.old) (O.faults sink.new)
+        × CutOff (map (λ w. w.items) words.now)
+        (streams (I.left source.old) (O.held sink.old) (O.held sink.new) (O.writes sink.old) (O.writes sink.new)) }
     ensures memory { result ≡ Status.Memory → O.held sink.new ≡ O.held sink.old }
 
     // What is asked for is answered, unless a stream fails or memory is wanting.
-    ensures usage { (n : ℕ) → IsFaulty (map (λ w. w.items) words.now) n
-        → (result ≡ Status.Usage n) ⊎ ((result ≡ Status.Memory) ⊎ (result ≡ Status.WriteFault)) }
-    ensures asked { (bytes text : List ℕ) (s : Status) → I.left source.old ≡ Some bytes → Asks (map (λ w. w.items) words.now) bytes s text
-        → (result ≡ s) ⊎ ((result ≡ Status.Memory) ⊎ ((result ≡ Status.WriteFault) ⊎ (result ≡ Status.ReadFault))) }
+    ensures usage { (n : ℕ) → IsFaulty (map (λ w. w.items) words.now) n →
+        (result ≡ Status.Usage n) ⊎ ((result ≡ Status.Memory) ⊎ (result ≡ Status.WriteFault)) }
+    ensures asked { (bytes text : List ℕ) (s : Status) → I.left source.old ≡ Some bytes →
+        Asks (map (λ w. w.items) words.now) bytes s text →
+        (result ≡ s) ⊎ ((result ≡ Status.Memory) ⊎ ((result ≡ Status.WriteFault) ⊎ (result ≡ Status.ReadFault))) }
 
     // At the end of a run that is done, the input was read to its end, and it is read in few reads.
     ensures end { result ≡ Status.Done → IsAtEnd (I.left source.new) }

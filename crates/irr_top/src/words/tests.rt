@@ -23,7 +23,10 @@ fn printed_wave_vectors_are_read_and_no_others(rt: HostRuntime) {
         ("100001,0,0", None),
         ("1/400,1/401,0", None),
     ] {
-        let read = printed_wave(text.as_bytes()).map(|w| (w.num, w.den));
+        let read = printed_wave(text.as_bytes()).map(|w| {
+            let num = w.num;
+            (num, w.den)
+        });
         assert_eq!(rt; read, wave, "at {text}");
     }
 }
