@@ -10,8 +10,8 @@ mod standard;
 mod writing;
 
 pub use failure::Failed;
-pub use irr_memory::Memory;
 pub use in_memory::{MemSink, MemSource};
+pub use irr_memory::Memory;
 pub use reading::{InFault, Source, read_all};
 pub use standard::{StdSink, StdSource};
 pub use writing::{Sink, write_all};

@@ -6,11 +6,10 @@ use irr_io::{StdSink, StdSource};
 use irr_memory::Memory;
 use irr_top::{Status, run};
 use std::alloc::Global;
-use std::env;
-use std::io;
 use std::io::ErrorKind;
 use std::process::ExitCode;
 use std::rt::Env;
+use std::{env, io};
 
 /// The exit status where the system does not give the words of the command line.
 const NO_WORDS: u8 = 10;

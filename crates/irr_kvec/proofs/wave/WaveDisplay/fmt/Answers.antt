@@ -18,6 +18,6 @@ returns-clause-writes g c = λ p o.
     let z : SFits w64 (get_or c.args.self.now.num 2 (pos 0)) = search rules in
     let P : List ℕ → Type 0 = λ text. HasWritten {W = g.row.W.Denot} g.W.Write.write_str_gives c.args.f.now text c.write.new.self in
     subst P (wave_text-fractions c.args.self.now.num c.args.self.now.den c.new-x.result.num c.new-y.result.num c.new-z.result.num c.new-x.result.den c.new-y.result.den c.new-z.result.den
-        c.new-x.ensures.lowest c.new-y.ensures.lowest c.new-z.ensures.lowest
-        (c.new-x.ensures.same ∙ kept (get_or c.args.self.now.num 0 (pos 0)) c.args.self.now.den x) (c.new-y.ensures.same ∙ kept (get_or c.args.self.now.num 1 (pos 0)) c.args.self.now.den y) (c.new-z.ensures.same ∙ kept (get_or c.args.self.now.num 2 (pos 0)) c.args.self.now.den z))
-        (c.write.ensures.writes p o)
+    c.new-x.ensures.lowest c.new-y.ensures.lowest c.new-z.ensures.lowest
+    (c.new-x.ensures.same ∙ kept (get_or c.args.self.now.num 0 (pos 0)) c.args.self.now.den x) (c.new-y.ensures.same ∙ kept (get_or c.args.self.now.num 1 (pos 0)) c.args.self.now.den y) (c.new-z.ensures.same ∙ kept (get_or c.args.self.now.num 2 (pos 0)) c.args.self.now.den z))
+    (c.write.ensures.writes p o)
