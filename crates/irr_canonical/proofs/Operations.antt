@@ -54,7 +54,7 @@ module _ (N : ℕ) where
   number-over a = ap (number N) (λ i. record { num = Element-path N a.num (element N a.num.at) (λ j lt. sym (at-element N a.num.at j lt)) i; den = a.den; den_pos = a.den_pos })
 
   -- a fraction with the coefficients h
-  over-by : (a : Fraction (Element N)) (h : ℕ → ℤ) (d : ℕ) (p : 0 < d) → a.den ≡ d → ((j : ℕ) → j < N → h j ≡ a.num.at j) → number N (over N h d p) ≡ number N a
+  pub over-by : (a : Fraction (Element N)) (h : ℕ → ℤ) (d : ℕ) (p : 0 < d) → a.den ≡ d → ((j : ℕ) → j < N → h j ≡ a.num.at j) → number N (over N h d p) ≡ number N a
   over-by a h d p e k = over-same h a.num.at d a.den p a.den_pos (λ j lt i. pos (e i) *ℤ k j lt i) ∙ sym (number-over a)
 
   -- cross products over the product of the denominators are the sum

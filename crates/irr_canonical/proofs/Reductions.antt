@@ -1,5 +1,6 @@
 -- Coefficients brought to the basis: each pass keeps the number, and after all of them the coefficients are in the basis.
 --   IsTop_of_factors, digit_of_factors   the top powers where N = p^e p r and p does not divide r
+--   top_of_class              each class has a top power
 --   top_unique                two top powers of one class are one
 --   number-reduced_at         a pass keeps the number
 --   IsFreeAt-reduced_at, IsFreeAt-kept    a pass at p frees the top powers of p, and keeps those of another prime free
@@ -78,6 +79,10 @@ module _ (N p : ℕ) (hN : 0 < N) (hp : IsPrime p) where
     top-mod_class j =
         let e : j ≡ j % (N / p) + (j / (N / p)) * (N / p) = sym (Nat.mod-add-div j (N / p)) ∙ omega arith in
         ap (top N p hN hp h) e ∙ top-many (j / (N / p)) (j % (N / p))
+
+    -- each class has a top power
+    pub top_of_class : (i : ℕ) → (t : ℕ) × (t < N) × IsTop N p t × (t % (N / p) ≡ i % (N / p))
+    top_of_class i = (top N p hN hp h i, top-below N p hN hp h i, IsTop-top i, top-class i)
 
     -- two top powers of one class are one
     pub top_unique : (s t : ℕ) → s < N → t < N → IsTop N p s → IsTop N p t → s % (N / p) ≡ t % (N / p) → s ≡ t

@@ -10,4 +10,4 @@ mod table;
 pub use cycle::cycles_of_places;
 pub use lists::lists_of_tables;
 pub use subgroup::restrictions_are_subtables;
-pub use table::{ORDER_LIMIT, PLACES_LIMIT, Twisted};
+pub use table::{PLACES_LIMIT, Twisted};

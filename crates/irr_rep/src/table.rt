@@ -1,13 +1,11 @@
 ghost use Rattle.std.specs.Prelude.{ℕ, ◌≡◌, ◌<◌, ◌≤◌, ◌+◌, ◌*◌, ◌^◌, length, map, vec_len, slice_index, Contains, IfOk};
 ghost use Rattle.irr_rep.specs.Table.{IsGroup, AreInverses, HasInverses, IsFactorSystem, AreUnitColumns, AreEntries, IsListed, entry};
 ghost use Rattle.irr_rep.specs.Subgroup.{IsSubgroup, IsRestriction};
-ghost use Rattle.irr_rep.specs.declared.table.TheConstants.{ORDER_LIMIT, PLACES_LIMIT};
+ghost use Rattle.irr_cyc.specs.declared.orders.TheConstants.{ORDER_LIMIT};
+ghost use Rattle.irr_rep.specs.declared.table.TheConstants.{PLACES_LIMIT};
 
 use irr_memory::Memory;
 use std::alloc::Global;
-
-/// The greatest order of a table of phases.
-pub const ORDER_LIMIT: u32 = 12_000;
 
 /// The greatest number of places of a table of phases: the greatest order of a point group.
 pub const PLACES_LIMIT: u32 = 48;

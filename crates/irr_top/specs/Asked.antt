@@ -8,6 +8,7 @@ use Rattle.irr_space.specs.Operation.{Operation, WaveVector}
 use Rattle.irr_space.specs.SpaceGroup.{Generated}
 use Rattle.irr_space.specs.Reciprocal.{IsOrder}
 use Rattle.irr_space.specs.Reciprocal.Sign.{minus}
+use Rattle.irr_cyc.specs.declared.orders.TheConstants.{ORDER_LIMIT}
 use Rattle.irr_text.specs.ReportText.{ReportContent, report_text, IsReportOf}
 use Rattle.irr_top.specs.Command.{IsSmall, IsCommand, IsFaulty}
 use Rattle.irr_top.specs.RefusalText.{refusal_text}
@@ -21,7 +22,7 @@ abbrev pub input_limit : ℕ
 input_limit = 4194304
 
 abbrev pub order_limit : ℕ
-order_limit = 12000
+order_limit = ORDER_LIMIT
 
 pub record SpellsGenerators (bytes : List ℕ) (gens : List Operation) : Type 0 where
   pub no_lines : bytes ≡ []

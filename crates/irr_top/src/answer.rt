@@ -15,13 +15,11 @@ ghost use Rattle.irr_io.specs.Count.{CountsAtMost};
 use crate::reduced::reduced;
 use crate::refusal::{finish, refuse};
 use crate::status::{Kind, Reason, Status};
+use irr_cyc::ORDER_LIMIT;
 use irr_io::{InFault, Sink, Source, read_all};
 use irr_kvec::Wave;
 use irr_memory::Memory;
 use std::alloc::Global;
-
-// The greatest order of numbers.
-const ORDER_LIMIT: u32 = 12_000;
 
 // The most bytes of input.
 const INPUT_LIMIT: usize = 4_194_304;

@@ -1,0 +1,11 @@
+pub mod Classes
+pub mod Passes
+pub mod Factors
+pub mod Divisors
+pub mod Values
+pub mod Placed
+pub mod Written
+pub mod Combined
+pub mod TermSums
+pub mod Lifted
+pub mod PowerSizes
