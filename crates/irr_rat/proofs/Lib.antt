@@ -3,3 +3,4 @@ pub mod LowestForms
 pub mod Vectors
 pub mod Lexicographic
 pub mod Reduction
+pub mod Fractions

@@ -71,7 +71,7 @@ vector_of-add a c s b d hb hd ex ey ez = vector-ext (vector_of s (b * d)) (vecto
     (λ i. component-vector_of s (b * d) i ∙ ap (λ k. ratio k (b * d)) (each_of_three (λ i. entry s i ≡ (entry a i *ℤ pos d) +ℤ (entry c i *ℤ pos b)) ex ey ez i)
     ∙ ratio-add (entry a i) (entry c i) b d hb hd ∙ sym (ap₂ rationals.add (component-vector_of a b i) (component-vector_of c d i)) ∙ sym (component-add (vector_of a b) (vector_of c d) i))
 
-difference : (x y : ℤ) (b d : ℕ) → (x *ℤ pos d) -ℤ (y *ℤ pos b) ≡ (x *ℤ pos d) +ℤ (neg_ℤ y *ℤ pos b)
+pub difference : (x y : ℤ) (b d : ℕ) → (x *ℤ pos d) -ℤ (y *ℤ pos b) ≡ (x *ℤ pos d) +ℤ (neg_ℤ y *ℤ pos b)
 difference x y b d = let e : neg_ℤ y *ℤ pos b ≡ neg_ℤ (y *ℤ pos b) = neg-mul integers y (pos b) in omega (arith, ints)
 
 -- and differences

@@ -1,3 +1,4 @@
 pub mod Lcm
 pub mod Lowest
 pub mod VectorMeaning
+pub mod RatioMeaning

@@ -3,8 +3,13 @@
 
 mod divisors;
 mod lowest;
+mod ratio;
 mod vec3;
 
 pub use divisors::{gcd, lcm_checked};
 pub use lowest::lowest_terms;
+pub use ratio::Ratio;
 pub use vec3::Vec3;
+
+#[cfg(test)]
+mod tests;
