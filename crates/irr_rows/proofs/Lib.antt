@@ -1,0 +1,4 @@
+pub mod NumberOrder
+pub mod RowOrder
+pub mod Increasing
+pub mod OneOrder
