@@ -29,7 +29,7 @@ use Rattle.irr_space.specs.Operation.{Operation, WaveVector, ◌⊙◌, identity
 use Rattle.irr_space.specs.SpaceGroup.{Generated}
 use Rattle.irr_space.specs.SpaceGroup.Generated.{one}
 use Rattle.irr_space.specs.Reciprocal.{Sign, sign_number, IsOrder}
-use Rattle.irr_space.specs.CanonicalOperation.{IsCanonicalOperation, IsNumbering}
+use Rattle.irr_space.specs.CanonicalOperation.{IsInCell, IsCanonicalOperation, IsNumbering}
 use Rattle.irr_space.specs.Star.{IsInLittleGroup}
 use Rattle.irr_space.specs.PhaseTable.{PhaseTable, IsPlaceOrder, IsTableOf, phases_at, place_power}
 use Rattle.irr_space.specs.CompleteList.{IsCompleteList, IsInOrder, row}
@@ -127,11 +127,14 @@ identity_component : (i : Fin 3) → component identity.vector i ≡ rationals.z
 unfolding identity
 identity_component i = component-null i
 
+pub identity_in_cell : IsInCell identity.vector
+identity_in_cell i = (subst (λ x. rationals.zero ≤ℚ x) (sym (identity_component i)) (le_refl rationals.zero), subst (λ x. x <ℚ rationals.one) (sym (identity_component i)) zero_below_one)
+
 -- the identity is the canonical operation of the unit rotation, and the only one in the group of no generators
 pub identity_canonical : IsCanonicalOperation (Generated []) identity
 identity_canonical = record {
   member = one;
-  in_cell = λ i. (subst (λ x. rationals.zero ≤ℚ x) (sym (identity_component i)) (le_refl rationals.zero), subst (λ x. x <ℚ rationals.one) (sym (identity_component i)) zero_below_one);
+  in_cell = identity_in_cell;
   least = λ h g e c. at_most_of_each 3 (component identity.vector) (component h.vector) (λ i. subst (λ x. x ≤ℚ component h.vector i) (sym (identity_component i)) (c i).0);
 }
 

@@ -1,0 +1,4 @@
+pub mod Operations
+pub mod Reciprocals
+pub mod Phases
+pub mod LittleGroups
