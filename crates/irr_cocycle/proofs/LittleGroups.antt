@@ -350,3 +350,12 @@ module _ (G : Operation → Type 0) (group : IsGroup G) (chosen : HasCanonical G
     products = products;
     phases = phases;
   }
+
+  pub little_table-order : little_table.order ≡ n
+  unfolding little_table
+  little_table-order = refl
+
+  -- the operation of its first place is the identity
+  pub little_table-start : ops little_table.start ≡ identity
+  unfolding little_table
+  little_table-start = start-identity

@@ -1,7 +1,7 @@
--- The little group of one operation modulo translations: the table of one place, of any order, and its one representation.
+-- The little groups of the group of no generators: of one operation modulo translations, with the table of one place.
 --   one_table n          the table of one place, of order n
---   one_representation   the 1 by 1 unit matrix
---   one_list             the list of it, which is complete and in order
+--   one_numbering        the identity is the one canonical operation
+--   one_table-is_table   the table is that of the little group of a wave vector of order n
 use Rattle.std.proofs.Common.{◌≡◌, sym, ◌∙◌, ap, subst, refl, ℕ, pos, ◌<◌, ◌≤◌, [], arith, ◌+ℤ◌, ◌*ℤ◌}
 use Rattle.std.proofs.lemmas.Int.{ints}
 use Rattle.std.specs.Int.{◌∣◌}
@@ -9,16 +9,10 @@ use native.Mathlib.Nat as Nat
 use lib.IntN.{zero-*ℤ}
 use Rattle.irr_algebra.specs.Fin.{Fin, to_nat}
 use Rattle.irr_algebra.specs.Fin.Fin.{first}
-use Rattle.irr_algebra.specs.Matrix.{Matrix, ◌·◌, ◌⊖◌, unit, null, trace}
-use Rattle.irr_algebra.specs.Ring.{whole}
+use Rattle.irr_algebra.specs.Matrix.{Matrix, ◌·◌, null}
 use Rattle.irr_algebra.proofs.Indices.{only_first}
 use Rattle.irr_algebra.proofs.Rings.{ring_laws}
-use Rattle.irr_algebra.proofs.Matrices.{unit-mul, mul-unit, scale-one, mul-null, trace-unit}
-use Rattle.irr_number.specs.Number.{numbers}
-use Rattle.irr_number.proofs.RootPowers.{root_power-zero}
-use Rattle.irr_theory.specs.FactorSystem.{Representation}
-use Rattle.irr_theory.specs.Representations.{Representations, IsFull, count_total}
-use Rattle.irr_theory.proofs.OnePlace.{one_family-simple}
+use Rattle.irr_algebra.proofs.Matrices.{mul-unit, mul-null}
 use Rattle.irr_rational.specs.Integer.{integer}
 use Rattle.irr_rational.specs.Rational.{Rational, rationals, IsWhole}
 use Rattle.irr_rational.specs.Order.{◌≤ℚ◌, ◌<ℚ◌}
@@ -31,18 +25,10 @@ use Rattle.irr_space.specs.SpaceGroup.Generated.{one}
 use Rattle.irr_space.specs.Reciprocal.{Sign, sign_number, IsOrder}
 use Rattle.irr_space.specs.CanonicalOperation.{IsInCell, IsCanonicalOperation, IsNumbering}
 use Rattle.irr_space.specs.Star.{IsInLittleGroup}
-use Rattle.irr_space.specs.PhaseTable.{PhaseTable, IsPlaceOrder, IsTableOf, phases_at, place_power}
-use Rattle.irr_space.specs.CompleteList.{IsCompleteList, IsInOrder, row}
-use Rattle.irr_space.proofs.FullLists.{full_list-complete}
+use Rattle.irr_space.specs.PhaseTable.{PhaseTable, IsPlaceOrder, IsTableOf, place_power}
 use Rattle.irr_lattice.proofs.Vectors.{vector-ext, component-null, whole_zero}
 use Rattle.irr_lattice.proofs.Translations.{generated_unit, generated_whole, operation-ext, translation-null}
 use Rattle.irr_lattice.proofs.Reciprocals.{least_in_cell, whole-equivalent}
-
-nothing_below : (i j : Fin 1) → to_nat i < to_nat j → ⊥
-nothing_below i j h = from_equal (sym (only_first i) ∙ only_first j) h
-  where
-    from_equal : i ≡ j → to_nat i < to_nat j → ⊥
-    from_equal e l = let s : to_nat i ≡ to_nat j = ap to_nat e in omega arith
 
 -- the table of one place
 pub one_place_order : (m : ℕ) → IsPlaceOrder {h = 1} first (λ i j. first) first m → m ≡ 1
@@ -82,36 +68,8 @@ module _ (n : ℕ) (positive : 0 < n) where
     exponents_divided = λ i m o. one_divides m _ (order_is_one i m o);
   }
 
-  -- the 1 by 1 unit matrix
-  abbrev pub one_representation : Representation (phases_at one_table) 1
-  one_representation = record {
-    at = λ i. unit (numbers n) 1;
-    at-start = refl;
-    at-product = λ i j. unit-mul (unit (numbers n) 1) ∙ sym (scale-one (unit (numbers n) 1)) ∙ ap (λ c. Rattle.irr_algebra.specs.Matrix.scale (numbers n) c (unit (numbers n) 1)) (sym (root_power-zero n));
-  }
-
-  abbrev pub one_list : Representations (phases_at one_table)
-  one_list = record { count = 1; size = λ m. 1; member = λ m. one_representation }
-
-  one_list-full : IsFull one_list
-  unfolding count_total
-  one_list-full = record {
-    positive = λ m. omega arith;
-    simple = λ m. one_family-simple (numbers n);
-    inequivalent = λ m k d e. d (sym (only_first m) ∙ only_first k);
-    squares = refl;
-  }
-
-  pub one_list-complete : IsCompleteList one_table one_list
-  one_list-complete = full_list-complete one_table one_list one_list-full
-
-  pub one_list-in_order : IsInOrder one_table one_list
-  one_list-in_order = record { ordered = λ m k h. absurd (nothing_below m k h) }
-
-  -- its character is 1
-  pub row-one_representation : (i : Fin 1) → row one_table one_representation i ≡ (numbers n).one
-  unfolding row whole
-  row-one_representation i = trace-unit (numbers n) 1 ∙ (numbers n).add-zero (numbers n).one
+no_pair : (i j : Fin 1) → to_nat i < to_nat j → ⊥
+no_pair i j h = let e : to_nat i ≡ to_nat j = ap to_nat (sym (only_first i) ∙ only_first j) in omega arith
 
 -- a whole number in [0,1) is 0
 pub zero_of_whole_in_cell : (x : Rational) → IsWhole x → rationals.zero ≤ℚ x → x <ℚ rationals.one → x ≡ rationals.zero
@@ -159,7 +117,7 @@ one_numbering k = record {
   canonical = λ i. identity_canonical;
   member = λ i. identity_in_little_group k;
   all = λ g c m. (first, canonical_identity g c);
-  ordered = λ i j h. absurd (nothing_below i j h);
+  ordered = λ i j h. absurd (no_pair i j h);
 }
 
 -- the table of the little group of a wave vector of order n

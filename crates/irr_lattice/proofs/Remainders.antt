@@ -2,18 +2,17 @@
 --   euclid             a is its quotient times b and its remainder, which is below b
 --   reduced_listed     the remainders of the numerators are the reduced wave vector
 --   lowest_listed      they are in lowest terms with the numerators
-use Rattle.std.proofs.Common.{◌≡◌, sym, ◌∙◌, ap, ap₂, subst, refl, ℕ, ℤ, pos, negsuc, zero, suc, ◌<◌, ◌≤◌, ◌+◌, ◌-◌, ◌*◌, ◌/◌, ◌%◌, ◌+ℤ◌, ◌*ℤ◌, neg_ℤ, [], List, arith}
+use Rattle.std.proofs.Common.{◌≡◌, sym, ◌∙◌, ap, ap₂, subst, ℕ, ℤ, pos, negsuc, suc, ◌<◌, ◌+◌, ◌-◌, ◌*◌, ◌/◌, ◌%◌, ◌+ℤ◌, ◌*ℤ◌, neg_ℤ, [], arith}
 use Rattle.std.proofs.lemmas.Int.{ints}
 use Rattle.std.specs.Int.{◌∣◌, int_div_euclid, int_rem_euclid}
 use Rattle.std.specs.Int.RustNames.{unsigned_abs}
 use native.Mathlib.Nat as Nat
 use Rattle.irr_algebra.specs.Fin.{Fin}
-use Rattle.irr_algebra.specs.Ring.{Ring, whole}
-use Rattle.irr_algebra.proofs.Rings.{ring_laws, neg-mul}
+use Rattle.irr_algebra.proofs.Rings.{neg-mul}
 use Rattle.irr_number.specs.Integers.{integers}
 use Rattle.irr_rational.specs.Integer.{integer}
 use Rattle.irr_rational.specs.Rational.{Rational, rationals, ratio, IsWhole}
-use Rattle.irr_rational.specs.Order.{◌≤ℚ◌, ◌<ℚ◌, IsFloor}
+use Rattle.irr_rational.specs.Order.{◌≤ℚ◌, ◌<ℚ◌}
 use Rattle.irr_rational.specs.Ratio.{AreLowest}
 use Rattle.irr_rational.proofs.Ratios.{ratio-add, integer-ratio, ratio_same}
 use Rattle.irr_rational.proofs.WholeNumbers.{whole-integer, whole-neg}
