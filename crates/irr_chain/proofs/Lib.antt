@@ -1,0 +1,11 @@
+pub mod GroupLaws
+pub mod Cosets
+pub mod Quotients
+pub mod Markings
+pub mod Passes
+pub mod Walks
+pub mod Generating
+pub mod Levels
+pub mod Chains
+pub mod CyclicLevels
+pub mod PointGroups

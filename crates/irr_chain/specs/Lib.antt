@@ -1,0 +1,4 @@
+pub mod NormalSubgroup
+pub mod Quotient
+pub mod Marks
+pub mod Series
