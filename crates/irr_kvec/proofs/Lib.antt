@@ -1,1 +1,10 @@
 pub mod WaveText
+pub mod Lattices
+pub mod Products
+pub mod Membership
+pub mod Steps
+pub mod ReducedForms
+pub mod LeastFactors
+pub mod GroupLattices
+pub mod Actions
+pub mod CentringLists

@@ -1,8 +1,7 @@
 -- The text of a wave vector from its three fractions in lowest terms.
 --   wave_text-fractions
-use Rattle.std.proofs.Common.{◌≡◌, sym, ◌∙◌, ap, ap₂, ℕ, ℤ, pos, List, ◌∷◌, ◌++◌, append_assoc, refl, get_or}
-use Rattle.irr_algebra.specs.Fin.{Fin, to_nat}
-use Rattle.irr_algebra.specs.Fin.Fin.{first, next}
+use Rattle.std.proofs.Common.{◌≡◌, sym, ◌∙◌, ap, ap₂, ℕ, ℤ, pos, List, ◌∷◌, ◌++◌, append_assoc, get_or}
+use Rattle.irr_algebra.specs.Fin.{to_nat}
 use Rattle.irr_rational.specs.Rational.{ratio}
 use Rattle.irr_rational.specs.Ratio.{IsLowest, ratios}
 use Rattle.irr_space.specs.Operation.{wave_component}

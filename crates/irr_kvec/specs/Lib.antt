@@ -1,1 +1,2 @@
 pub mod WaveMeaning
+pub mod Centrings

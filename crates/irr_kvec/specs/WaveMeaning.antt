@@ -2,7 +2,6 @@
 --   wave_of num den       three whole numbers over one denominator, as a wave vector
 --   wave_vector w         that of the fields of w
 use Rattle.std.specs.Prelude.{ℕ, ℤ, List}
-use Rattle.irr_algebra.specs.Fin.{Fin}
 use Rattle.irr_rational.specs.Ratio.{ratios}
 use Rattle.irr_space.specs.Operation.{WaveVector}
 use Rattle.irr_kvec.specs.declared.wave.Wave.{Wave}

@@ -1,7 +1,21 @@
 //! Wave vectors.
 #![tactic(auto)]
 
+mod action;
+mod equivalence;
 mod fraction;
+mod laws;
+mod periods;
+mod reciprocal;
+mod reduction;
 mod wave;
 
+pub use action::act;
+pub use equivalence::equivalent;
+pub use laws::{centrings_of_group, wave_vectors_of_group};
+pub use periods::period;
+pub use reduction::reduced;
 pub use wave::Wave;
+
+#[cfg(test)]
+mod tests;
