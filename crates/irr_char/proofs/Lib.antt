@@ -1,0 +1,7 @@
+pub mod TermLists
+pub mod Comparisons
+pub mod RowOrders
+pub mod RowForms
+pub mod PlaceOrders
+pub mod RowLists
+pub mod MadeForms
