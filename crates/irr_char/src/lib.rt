@@ -1,9 +1,11 @@
-//! Rows of numbers in their canonical order: characters of small representations, as they are labelled.
+//! Characters of small representations: the laws on them, and their rows in canonical order, as they are labelled.
 #![tactic(auto)]
 
 mod forms;
+mod laws;
 mod numbers;
 mod rows;
 
 pub use irr_memory::Memory;
+pub use laws::{dimensions_of_intertwiners, simple_representations};
 pub use rows::order_rows;
