@@ -1,7 +1,6 @@
 //! Wave vectors.
 #![tactic(auto)]
 
-mod fraction;
 mod wave;
 
 pub use wave::Wave;
