@@ -1,7 +1,7 @@
 use crate::print_triplet;
 use irr_rat::Vec3;
 use irr_seitz::Op;
-use std::alloc::Global;
+use std::test::Fail;
 
 // Operations of worked inputs, and their printed forms.
 fn operations() -> [(Op, &'static str); 4] {
@@ -37,8 +37,10 @@ fn operation(rot: [[i16; 3]; 3], quarters: [i64; 3]) -> Op {
 }
 
 #[test]
-fn operations_print_as_triplets(rt: HostRuntime, heap: Global) {
+fn operations_print_as_triplets(rt: HostRuntime) -> Result<(), Fail> {
     for (op, text) in operations() {
-        assert!(rt; print_triplet(heap, &op).is_ok_and(|t| t.as_slice() == text.as_bytes()), "at {text}");
+        let printed = print_triplet(rt.alloc(), &op)?;
+        assert_eq!(rt; printed.as_slice(), text.as_bytes(), "at {text}");
     }
+    Ok(())
 }
