@@ -5,7 +5,7 @@
 --   sum_text-front                                  only the first term loses its plus
 --   terms-x, terms-y, terms-z, terms-none           the text of a component, by the first of its coefficients that is not 0
 --   terms-component                                 it is the text of the operation's component
-use Rattle.std.proofs.Common.{◌≡◌, refl, sym, ◌∙◌, ap, ap₂, subst, ℕ, zero, suc, ◌<◌, ℤ, pos, negsuc, List, [], ◌∷◌, ◌++◌, append_assoc, append-nil, Bool, true, false, arith, slice_index_or, w16, to_z, of_z}
+use Rattle.std.proofs.Common.{◌≡◌, refl, sym, ◌∙◌, ap, ap₂, subst, ℕ, zero, suc, ℤ, pos, negsuc, List, [], ◌∷◌, ◌++◌, append_assoc, Bool, true, false, arith, slice_index_or, w16, to_z, of_z}
 use mir.Val.{SFits}
 use Rattle.std.proofs.lemmas.Int.{to_z-of_z}
 use lib.Signed.{lt_z}

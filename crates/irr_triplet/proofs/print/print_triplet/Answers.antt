@@ -1,5 +1,5 @@
 -- The text of a triplet.
-use Rattle.std.proofs.Common.{◌≡◌, ◌∙◌, ap, refl, ℕ, Vec, Global}
+use Rattle.std.proofs.Common.{◌∙◌, ap, refl, ℕ, Vec, Global}
 use Rattle.irr_algebra.specs.Fin.{to_nat}
 use Rattle.irr_algebra.specs.Fin.Fin.{first, next}
 use Rattle.irr_seitz.specs.OperationMeaning.{operation}

@@ -1,5 +1,5 @@
 -- The component of an operation.
-use Rattle.std.proofs.Common.{◌≡◌, ◌∙◌, sym, ap, ap₂, ℕ, ℤ, List, [], subst, w16, w64, to_z, of_z, pos, rules, slice_index_or}
+use Rattle.std.proofs.Common.{◌∙◌, ap, ap₂, [], w16, w64, to_z, of_z, pos, rules, slice_index_or}
 use mir.Val.{SFits}
 use Rattle.std.proofs.lemmas.Int.{to_z-of_z}
 use Rattle.irr_rational.specs.Rational.{ratio}

@@ -1,5 +1,5 @@
 -- The text of a component.
-use Rattle.std.proofs.Common.{◌≡◌, ◌∙◌, sym, ap, ℕ, ℤ, List, subst, w16, to_z, of_z, rules}
+use Rattle.std.proofs.Common.{ℕ, List, subst, w16, to_z, of_z, rules}
 use mir.Val.{SFits}
 use Rattle.std.specs.Fmt.{HasWritten}
 use Rattle.std.proofs.lemmas.Int.{to_z-of_z}

@@ -1,5 +1,5 @@
 -- A constant behind others.
-use Rattle.std.proofs.Common.{◌≡◌, ℕ, ℤ, List, subst, to_z, of_z, pos, rules, true, false}
+use Rattle.std.proofs.Common.{◌≡◌, ℕ, List, subst, pos, rules, true, false}
 use Rattle.std.specs.Int.{w128}
 use mir.Val.{SFits}
 use lib.Signed.{lt_z}

@@ -1,5 +1,5 @@
 -- A term behind others.
-use Rattle.std.proofs.Common.{◌≡◌, ℕ, ℤ, List, subst, w16, to_z, of_z, pos, rules, true, false}
+use Rattle.std.proofs.Common.{◌≡◌, ℕ, List, subst, w16, pos, rules, true, false}
 use mir.Val.{SFits}
 use lib.Signed.{lt_z}
 use Rattle.std.specs.Fmt.{HasWritten}

@@ -1,5 +1,5 @@
 -- A term by itself.
-use Rattle.std.proofs.Common.{◌≡◌, ◌∙◌, sym, ap, ℕ, ℤ, List, [], ◌∷◌, ◌++◌, subst, w16, to_z, of_z, pos, negsuc, rules, refl}
+use Rattle.std.proofs.Common.{◌∙◌, ap, ℕ, List, [], ◌∷◌, ◌++◌, subst, w16, pos, negsuc, rules, refl}
 use mir.Val.{SFits}
 use Rattle.std.specs.Fmt.{HasWritten, signed_decimal}
 use Rattle.std.proofs.lemmas.Int.{to_z-of_z}
