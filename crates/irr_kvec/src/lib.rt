@@ -3,7 +3,6 @@
 
 mod action;
 mod equivalence;
-mod fraction;
 mod laws;
 mod periods;
 mod reciprocal;

@@ -2,7 +2,7 @@
 ghost use Rattle.std.specs.Prelude.{Some};
 ghost use Rattle.irr_rat.specs.Lowest.{AreThreeLowest};
 
-use crate::fraction::Fraction;
+use irr_rat::Fraction;
 use std::fmt;
 
 /// A wave vector: three components over their least common denominator, in the basis of the reciprocal

@@ -6,19 +6,19 @@ ghost use Rattle.irr_rational.specs.Rational.{ratio};
 ghost use Rattle.irr_rational.specs.Ratio.{IsLowest};
 ghost use Rattle.irr_text.specs.NumberText.{fraction_text};
 
-use irr_rat::gcd;
+use crate::divisors::gcd;
 use std::fmt;
 
-/// A fraction in lowest terms.
-#[derive(Clone, Copy)]
-pub(crate) struct Fraction {
-    num: i128,
-    den: u64,
+/// A fraction of one component, as it prints.
+#[derive(Clone, Copy, Debug)]
+pub struct Fraction {
+    pub num: i128,
+    pub den: u64,
 }
 
 impl Fraction {
     /// num/den in lowest terms.
-    pub(crate) fn new(num: i64, den: u32) -> Fraction
+    pub fn new(num: i64, den: u32) -> Fraction
         requires { 0 < den }
         ensures lowest { IsLowest result.num result.den }
         ensures same { ratio result.num result.den ≡ ratio num den }

@@ -3,7 +3,7 @@ use Rattle.std.proofs.Common.{◌≡◌, ◌∙◌, ap, subst, ℕ, unsigned_abs
 use Rattle.std.specs.Int.{IsGcd}
 use Rattle.std.proofs.lemmas.Int.{to_z-of_z}
 use Rattle.irr_number.proofs.Primes.{divisor_pos}
-use Rattle.irr_kvec.proofs.fraction.divisor.Goals as goal
+use Rattle.irr_rat.proofs.fraction.divisor.Goals as goal
 
 moved : (a b c d g : ℕ) → a ≡ b → c ≡ d → IsGcd a c g → IsGcd b d g
 moved a b c d g e f h = subst (λ x. IsGcd x d g) e (subst (λ y. IsGcd a y g) f h)

@@ -7,7 +7,7 @@ use Rattle.std.proofs.lemmas.Int.{to_z-of_z}
 use Rattle.irr_rational.specs.Rational.{ratio}
 use Rattle.irr_rational.specs.Ratio.{IsLowest}
 use Rattle.irr_rational.proofs.LowestTerms.{lowest_quotients}
-use Rattle.irr_kvec.proofs.fraction.Fraction.new.Goals as goal
+use Rattle.irr_rat.proofs.fraction.Fraction.new.Goals as goal
 
 module _ (c : goal.After-from-2) where
   num_fits : SFits w64 c.args.num

@@ -1,0 +1,11 @@
+//! Coordinate triplets: the printed form of an operation, written and read.
+#![tactic(auto)]
+
+mod component;
+mod print;
+mod term;
+
+pub use print::print_triplet;
+
+#[cfg(test)]
+mod tests;
