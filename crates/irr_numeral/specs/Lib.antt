@@ -1,0 +1,2 @@
+pub mod WrittenNumber
+pub mod Front
