@@ -1,2 +1,3 @@
 pub mod ByteKinds
 pub mod NumberRecogniser
+pub mod PrintedTerms

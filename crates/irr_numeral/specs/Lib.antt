@@ -1,2 +1,3 @@
+pub mod PrintedTerm
 pub mod WrittenNumber
 pub mod Front

@@ -1,4 +1,10 @@
 //! The text of a number: its printed form, and texts as they are read.
 #![tactic(auto)]
 
+mod print;
 mod shape;
+
+pub use print::print_number;
+
+#[cfg(test)]
+mod tests;

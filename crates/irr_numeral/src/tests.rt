@@ -1,0 +1,27 @@
+use crate::print_number;
+use irr_cyc::{Dense, ORDER_LIMIT, Order, Scalar};
+use std::test::Fail;
+
+// Sums of powers of z in the basis: of order 3, z^2 is -1 - z, of order 6 z is -z^4, of order 12 z^2 is 1 + z^4.
+#[test]
+fn numbers_print_in_the_basis(rt: HostRuntime) -> Result<(), Fail> {
+    let rows: [(u32, u64, u32, i64, &str); 8] = [
+        (3, 1, 2, 1, "-1-1*z^1"),
+        (6, 1, 1, 1, "-1*z^4"),
+        (6, 1, 5, 1, "1+1*z^4"),
+        (12, 1, 2, 1, "1+1*z^4"),
+        (4, 4, 3, 2, "-1/2*z^1"),
+        (1, 1, 0, 16_777_217, "16777217"),
+        (3, 1, 1, 0, "0"),
+        (3, 1, 1, 1, "1*z^1"),
+    ];
+    for (n, den, exponent, coefficient, text) in rows {
+        assert!(rt; 0 < n && n <= ORDER_LIMIT && exponent < n && 0 < den && den <= 4);
+        assert!(rt; -20_000_000 < coefficient && coefficient < 20_000_000);
+        let order = Order::new(rt.alloc(), n)?;
+        let number = Dense::from_terms(rt.alloc(), &order, den, &[(exponent, coefficient)])?;
+        let printed = print_number(rt.alloc(), &number)?;
+        assert!(rt; printed.as_slice() == text.as_bytes(), "{text}");
+    }
+    Ok(())
+}
