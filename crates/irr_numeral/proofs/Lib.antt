@@ -1,3 +1,4 @@
 pub mod ByteKinds
 pub mod NumberRecogniser
 pub mod PrintedTerms
+pub mod Splits

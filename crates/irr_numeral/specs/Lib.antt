@@ -1,3 +1,5 @@
 pub mod PrintedTerm
 pub mod WrittenNumber
 pub mod Front
+pub mod Split
+pub mod TermPlaces

@@ -3,6 +3,7 @@
 
 mod print;
 mod shape;
+mod terms;
 
 pub use print::print_number;
 

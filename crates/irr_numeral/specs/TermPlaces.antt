@@ -1,0 +1,26 @@
+-- Where the numbers of a text's terms begin, counted in bytes from 0, behind the terms before them.
+--   numerator_place before t, denominator_place before t, exponent_place before t
+--   written_term w      the term that the program's value w stands for
+--   ArePlaced ws        each term has the place of its numerator
+use Rattle.std.specs.Prelude.{ℕ, ◌≡◌, ◌+◌, ◌<◌, List, [], ◌∷◌, ◌++◌, length, take, map, slice_index_or}
+use Rattle.std.specs.Option.{option_copied}
+use Rattle.irr_numeral.specs.declared.terms.Written.{Written}
+use Rattle.irr_numeral.specs.WrittenNumber.{WrittenTerm, first_sign, spelled, quotient_text}
+
+abbrev pub numerator_place : List WrittenTerm → WrittenTerm → ℕ
+numerator_place [] t = length (first_sign t.negative)
+numerator_place (s ∷ before) t = length (spelled (s ∷ before)) + 1
+
+-- behind the numerator and the slash
+abbrev pub denominator_place : List WrittenTerm → WrittenTerm → ℕ
+denominator_place before t = numerator_place before t + length t.numerator + 1
+
+-- behind the coefficient and *z^
+abbrev pub exponent_place : List WrittenTerm → WrittenTerm → ℕ
+exponent_place before t = numerator_place before t + length (t.numerator ++ quotient_text t.denominator) + 3
+
+abbrev pub written_term : Written → WrittenTerm
+written_term w = record { negative = w.negative; numerator = w.numerator.now; denominator = option_copied w.denominator; exponent = option_copied w.exponent }
+
+abbrev pub ArePlaced : List Written → Type 0
+ArePlaced ws = (k : ℕ) (d : Written) → k < length ws → (slice_index_or ws k d).place ≡ numerator_place (map written_term (take k ws)) (written_term (slice_index_or ws k d))
