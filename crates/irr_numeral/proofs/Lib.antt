@@ -2,3 +2,4 @@ pub mod ByteKinds
 pub mod NumberRecogniser
 pub mod PrintedTerms
 pub mod Splits
+pub mod DigitOrder

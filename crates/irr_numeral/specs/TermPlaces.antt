@@ -2,10 +2,11 @@
 --   numerator_place before t, denominator_place before t, exponent_place before t
 --   written_term w      the term that the program's value w stands for
 --   ArePlaced ws        each term has the place of its numerator
-use Rattle.std.specs.Prelude.{ℕ, ◌≡◌, ◌+◌, ◌<◌, List, [], ◌∷◌, ◌++◌, length, take, map, slice_index_or}
+--   IsUnorderedAt ts p  the first exponent that is not above the one before it begins at p
+use Rattle.std.specs.Prelude.{ℕ, ◌≡◌, ◌+◌, ◌<◌, ◌≤◌, List, [], ◌∷◌, ◌++◌, length, take, map, slice_index_or}
 use Rattle.std.specs.Option.{option_copied}
 use Rattle.irr_numeral.specs.declared.terms.Written.{Written}
-use Rattle.irr_numeral.specs.WrittenNumber.{WrittenTerm, first_sign, spelled, quotient_text}
+use Rattle.irr_numeral.specs.WrittenNumber.{WrittenTerm, first_sign, spelled, quotient_text, exponent_of, AreIncreasing}
 
 abbrev pub numerator_place : List WrittenTerm → WrittenTerm → ℕ
 numerator_place [] t = length (first_sign t.negative)
@@ -24,3 +25,14 @@ written_term w = record { negative = w.negative; numerator = w.numerator.now; de
 
 abbrev pub ArePlaced : List Written → Type 0
 ArePlaced ws = (k : ℕ) (d : Written) → k < length ws → (slice_index_or ws k d).place ≡ numerator_place (map written_term (take k ws)) (written_term (slice_index_or ws k d))
+
+-- p is the place of the first exponent that is not above the one before it
+pub record IsUnorderedAt (ts : List WrittenTerm) (p : ℕ) : Type 0 where
+  pub before : List WrittenTerm
+  pub last : WrittenTerm
+  pub term : WrittenTerm
+  pub after : List WrittenTerm
+  pub parts : ts ≡ before ++ (last ∷ term ∷ after)
+  pub ordered : AreIncreasing (before ++ (last ∷ []))
+  pub unordered : exponent_of term ≤ exponent_of last
+  pub place : p ≡ exponent_place (before ++ (last ∷ [])) term

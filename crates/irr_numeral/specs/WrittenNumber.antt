@@ -6,6 +6,7 @@
 --   IsWhole, IsDenominator     digits of a whole number above 0; and 0 too
 --   AreTerms ts            the numbers are such, and each term but the first has an exponent
 --   IsNumber text          some terms spell the text
+--   IsExponent ds          the digits of an exponent, none where none is written
 --   exponent_of t          the exponent, 0 where none is written
 --   AreIncreasing ts       the exponents increase from term to term
 use Rattle.std.specs.Prelude.{ℕ, ◌≡◌, ◌≤◌, Bool, List, [], ◌∷◌, ◌++◌, Option, None, Some, IfSome, IsSome, if◌then◌else◌, ◌⊎◌, map}
@@ -73,6 +74,11 @@ pub record IsNumber (text : List ℕ) : Type 0 where
   pub terms : List WrittenTerm
   pub are_terms : AreTerms terms
   pub spells : spelled terms ≡ text
+
+-- the digits of an exponent, none where none is written
+abbrev pub IsExponent : List ℕ → Type 0
+IsExponent [] = Unit {0}
+IsExponent (d ∷ ds) = IsWhole (d ∷ ds)
 
 -- the exponent of a term, 0 where none is written
 abbrev pub exponent_value : Option (List ℕ) → ℕ
