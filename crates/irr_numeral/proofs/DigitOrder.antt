@@ -54,7 +54,7 @@ below-at n (x ∷ xs) (y ∷ ys) zero e a b lt same less = below-by_front (n * 1
 below-at n (x ∷ xs) (y ∷ ys) (suc i) e a b lt same less =
     let first : x ≡ y = same 0 (omega arith) in
     subst (λ d. digits_value_after 10 (n * 10 + digit_value x) xs < digits_value_after 10 (n * 10 + digit_value d) ys) first
-        (below-at (n * 10 + digit_value x) xs ys i (omega arith) a.1 b.1 (omega arith) (λ k l. same (suc k) (omega arith)) less)
+    (below-at (n * 10 + digit_value x) xs ys i (omega arith) a.1 b.1 (omega arith) (λ k l. same (suc k) (omega arith)) less)
 
 pub below-by_digit : (xs ys : List ℕ) (i : ℕ) → IsExponent xs → IsExponent ys → length xs ≡ length ys → i < length xs → ((k : ℕ) → k < i → get_or xs k 0 ≡ get_or ys k 0) → get_or xs i 0 < get_or ys i 0
     → digits_value 10 xs < digits_value 10 ys
@@ -74,17 +74,23 @@ lt-true : (m n : ℕ) → m < n → IsTrue (nat_lt m n)
 lt-true m n h = grind (arith, nat_tests)
 
 pub told-by_length : (xs ys : List ℕ) → IsExponent xs → IsExponent ys → length xs ≢ length ys → IsTrue (nat_lt (length xs) (length ys)) ↔ (digits_value 10 xs < digits_value 10 ys)
-told-by_length xs ys a b n = (λ t. below-by_length xs ys a b (true-lt (length xs) (length ys) t), λ h. lt-true (length xs) (length ys) (elim (cases_lt (length xs) (length ys)) [
-  | inl l ↦ l
-  | inr g ↦ absurd (let back : digits_value 10 ys < digits_value 10 xs = below-by_length ys xs b a (omega arith) in omega arith)
-]))
+told-by_length xs ys a b n = (
+  λ t. below-by_length xs ys a b (true-lt (length xs) (length ys) t),
+  λ h. lt-true (length xs) (length ys) (elim (cases_lt (length xs) (length ys)) [
+    | inl l ↦ l
+    | inr g ↦ absurd (let back : digits_value 10 ys < digits_value 10 xs = below-by_length ys xs b a (omega arith) in omega arith)
+  ]),
+)
 
 pub told-by_digit : (xs ys : List ℕ) (i x y : ℕ) → IsExponent xs → IsExponent ys → length xs ≡ length ys → i < length xs → ((k : ℕ) → k < i → get_or xs k 0 ≡ get_or ys k 0) → x ≡ get_or xs i 0 → y ≡ get_or ys i 0 → x ≢ y
     → IsTrue (nat_lt x y) ↔ (digits_value 10 xs < digits_value 10 ys)
-told-by_digit xs ys i x y a b e lt same p q n = (λ t. below-by_digit xs ys i a b e lt same (let less : x < y = true-lt x y t in omega arith), λ h. lt-true x y (elim (cases_lt x y) [
-  | inl l ↦ l
-  | inr g ↦ absurd (let back : digits_value 10 ys < digits_value 10 xs = below-by_digit ys xs i b a (sym e) (omega arith) (λ k l. sym (same k l)) (omega arith) in omega arith)
-]))
+told-by_digit xs ys i x y a b e lt same p q n = (
+  λ t. below-by_digit xs ys i a b e lt same (let less : x < y = true-lt x y t in omega arith),
+  λ h. lt-true x y (elim (cases_lt x y) [
+    | inl l ↦ l
+    | inr g ↦ absurd (let back : digits_value 10 ys < digits_value 10 xs = below-by_digit ys xs i b a (sym e) (omega arith) (λ k l. sym (same k l)) (omega arith) in omega arith)
+  ]),
+)
 
 pub told-by_all : (xs ys : List ℕ) → length xs ≡ length ys → ((k : ℕ) → k < length xs → get_or xs k 0 ≡ get_or ys k 0) → IsTrue false ↔ (digits_value 10 xs < digits_value 10 ys)
 told-by_all xs ys e same = (λ t. absurd (cc), λ h. absurd (let is : digits_value 10 xs ≡ digits_value 10 ys = ap (digits_value 10) (same_digits xs ys e same) in omega arith))

@@ -3,3 +3,4 @@ pub mod NumberRecogniser
 pub mod PrintedTerms
 pub mod Splits
 pub mod DigitOrder
+pub mod ExponentOrder

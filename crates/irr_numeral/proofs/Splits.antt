@@ -134,7 +134,7 @@ sign_of (b ∷ before) t ts text unsigned negative is e s = by_sign t.negative e
     by_sign false f = s.plus (unsigned_text t ++ spelled_later ts) f
 
 -- the place of the next term
-place_of : (before : List WrittenTerm) (t : WrittenTerm) (ts : List WrittenTerm) (text unsigned : List ℕ) → spelled (before ++ (t ∷ ts)) ≡ text → unsigned ≡ unsigned_text t ++ spelled_later ts
+pub place_of : (before : List WrittenTerm) (t : WrittenTerm) (ts : List WrittenTerm) (text unsigned : List ℕ) → spelled (before ++ (t ∷ ts)) ≡ text → unsigned ≡ unsigned_text t ++ spelled_later ts
     → length text ≡ numerator_place before t + length unsigned
 place_of [] t ts text unsigned e f = ap length (sym e ∙ ap (λ l. first_sign t.negative ++ l) (sym f)) ∙ length-append (first_sign t.negative) unsigned
 place_of (b ∷ before) t ts text unsigned e f =
