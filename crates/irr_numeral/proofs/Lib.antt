@@ -4,3 +4,4 @@ pub mod PrintedTerms
 pub mod Splits
 pub mod DigitOrder
 pub mod ExponentOrder
+pub mod ZeroDenominators

@@ -2,8 +2,10 @@
 --   numerator_place before t, denominator_place before t, exponent_place before t
 --   written_term w      the term that the program's value w stands for
 --   ArePlaced ws        each term has the place of its numerator
+--   HasZero t           the denominator of t is 0
+--   IsZeroAt ts p       the first denominator that is 0 begins at p
 --   IsUnorderedAt ts p  the first exponent that is not above the one before it begins at p
-use Rattle.std.specs.Prelude.{ℕ, ◌≡◌, ◌+◌, ◌<◌, ◌≤◌, List, [], ◌∷◌, ◌++◌, length, take, map, slice_index_or}
+use Rattle.std.specs.Prelude.{ℕ, ◌≡◌, ◌+◌, ◌<◌, ◌≤◌, List, [], ◌∷◌, ◌++◌, length, take, map, slice_index_or, Option, Some, All}
 use Rattle.std.specs.Option.{option_copied}
 use Rattle.irr_numeral.specs.declared.terms.Written.{Written}
 use Rattle.irr_numeral.specs.WrittenNumber.{WrittenTerm, first_sign, spelled, quotient_text, exponent_of, AreIncreasing}
@@ -36,3 +38,16 @@ pub record IsUnorderedAt (ts : List WrittenTerm) (p : ℕ) : Type 0 where
   pub ordered : AreIncreasing (before ++ (last ∷ []))
   pub unordered : exponent_of term ≤ exponent_of last
   pub place : p ≡ exponent_place (before ++ (last ∷ [])) term
+
+abbrev pub HasZero : WrittenTerm → Type 0
+HasZero t = t.denominator ≡ Some (48 ∷ [])
+
+-- p is the place of the first denominator that is 0
+pub record IsZeroAt (ts : List WrittenTerm) (p : ℕ) : Type 0 where
+  pub before : List WrittenTerm
+  pub term : WrittenTerm
+  pub after : List WrittenTerm
+  pub parts : ts ≡ before ++ (term ∷ after)
+  pub others : All (λ t. ¬ (HasZero t)) before
+  pub zero : HasZero term
+  pub place : p ≡ denominator_place before term

@@ -5,6 +5,7 @@ mod order;
 mod print;
 mod shape;
 mod terms;
+mod zero;
 
 pub use print::print_number;
 
