@@ -3,3 +3,4 @@ pub mod WrittenNumber
 pub mod Front
 pub mod Split
 pub mod TermPlaces
+pub mod NumberFault

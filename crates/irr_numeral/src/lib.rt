@@ -3,11 +3,13 @@
 
 mod order;
 mod print;
+mod read;
 mod shape;
 mod terms;
 mod zero;
 
 pub use print::print_number;
+pub use read::NumberError;
 
 #[cfg(test)]
 mod tests;

@@ -1,4 +1,5 @@
-use crate::print_number;
+use crate::read::read_terms;
+use crate::{NumberError, print_number};
 use irr_cyc::{Dense, ORDER_LIMIT, Order, Scalar};
 use std::test::Fail;
 
@@ -24,4 +25,25 @@ fn numbers_print_in_the_basis(rt: HostRuntime) -> Result<(), Fail> {
         assert!(rt; printed.as_slice() == text.as_bytes(), "{text}");
     }
     Ok(())
+}
+
+#[test]
+fn texts_leave_the_grammar_at_one_place(rt: HostRuntime) {
+    for (text, error) in [
+        ("", NumberError::Shape(0)),
+        ("z", NumberError::Shape(0)),
+        ("01", NumberError::Shape(1)),
+        ("1*z^1+1", NumberError::Shape(7)),
+        ("1*z^2+1*z^1", NumberError::Shape(10)),
+        ("1*z^10-1*z^9/0", NumberError::Shape(12)),
+        ("1/0", NumberError::Zero(2)),
+        ("-1/2+3/0*z^1-1/0*z^2", NumberError::Zero(7)),
+    ] {
+        let read = read_terms(rt.alloc(), text.as_bytes());
+        assert!(rt; read.err() == Some(error), "{text}");
+    }
+    for (text, count) in [("0", 0), ("-1/2-3*z^7", 2), ("2/4*z^3", 1)] {
+        let read = read_terms(rt.alloc(), text.as_bytes());
+        assert!(rt; read.ok().map(|terms| terms.len()) == Some(count), "{text}");
+    }
 }
