@@ -3,14 +3,14 @@
 --   below-by_length     of fewer digits, where the other number has no leading zero
 --   below-by_digit      by the first digit that differs
 --   told-by_length, told-by_digit, told-by_all     what the tests of lengths and digits tell
-use Rattle.std.proofs.Common.{◌≡◌, ◌≢◌, refl, sym, ◌∙◌, ap, ap₂, subst, ℕ, zero, suc, ◌<◌, ◌≤◌, ◌+◌, ◌*◌, List, [], ◌∷◌, length, get_or, arith, ◌⊎◌, inl, inr, IsTrue, nat_lt, ◌↔◌, false}
+use Rattle.std.proofs.Common.{◌≡◌, ◌≢◌, refl, sym, ap, ap₂, subst, ℕ, zero, suc, ◌<◌, ◌≤◌, ◌+◌, ◌*◌, List, [], ◌∷◌, length, get_or, arith, inl, inr, IsTrue, nat_lt, ◌↔◌, false}
 use Rattle.std.proofs.lemmas.Bool.Decides.{nat_tests}
 use Rattle.std.specs.Char.{digit_value}
 use Rattle.std.specs.Str.Parse.{AllDigits, digits_value, digits_value_after}
 use Rattle.std.proofs.lemmas.Bool.{cases_lt}
 use Rattle.std.proofs.lemmas.Str.{digit_value_digit}
 use Rattle.irr_digits.proofs.Numerals.{digit_between}
-use Rattle.irr_numeral.specs.WrittenNumber.{IsWhole, IsExponent}
+use Rattle.irr_numeral.specs.WrittenNumber.{IsExponent}
 use Rattle.irr_numeral.proofs.Splits.{digits_of_whole}
 
 pub digits_of_exponent : (ds : List ℕ) → IsExponent ds → AllDigits 10 ds

@@ -5,9 +5,8 @@
 --   all-increase               all exponents increase
 --   exponent-at                what is known of a term with an exponent
 --   first_of_none              only the first term may have none
-use Rattle.std.proofs.Common.{◌≡◌, refl, sym, ◌∙◌, ap, ap₂, subst, ℕ, zero, suc, ◌<◌, ◌≤◌, ◌+◌, ◌-◌, ◌^◌, List, [], ◌∷◌, ◌++◌, length, length-append, get_or, take, drop, map, Option, None, Some, IsSome, IfSome, arith, ◌⊎◌, inl, inr, append_assoc, false}
+use Rattle.std.proofs.Common.{◌≡◌, refl, sym, ◌∙◌, ap, subst, ℕ, zero, suc, ◌<◌, ◌≤◌, ◌+◌, ◌-◌, List, [], ◌∷◌, ◌++◌, length, length-append, get_or, take, drop, map, Option, None, Some, IsSome, IfSome, arith, ◌⊎◌, inl, inr, append_assoc, false}
 use Rattle.std.specs.Str.Parse.{digits_value}
-use Rattle.std.specs.List.Sorted.{IsStrictlyIncreasing}
 use Rattle.std.proofs.lemmas.Bool.{cases_lt}
 use Rattle.std.proofs.lemmas.List.{take-map, get_or-map, length-map, length-take-le, get_or-take, take_all}
 use Rattle.std.proofs.Math.Seq.{split_at, take-suc, drop-cons}
@@ -85,7 +84,7 @@ later-index [] i d h lt = absurd (omega arith)
 later-index (t ∷ ts) zero d h lt = (h.0, h.1)
 later-index (t ∷ ts) (suc i) d h lt = later-index ts i d h.2 (omega arith)
 
-term-index : (ts : List WrittenTerm) (i : ℕ) (d : WrittenTerm) → AreTerms ts → i < length ts → IsTerm (get_or ts i d)
+pub term-index : (ts : List WrittenTerm) (i : ℕ) (d : WrittenTerm) → AreTerms ts → i < length ts → IsTerm (get_or ts i d)
 term-index [] i d h lt = absurd (omega arith)
 term-index (t ∷ ts) zero d h lt = h.0
 term-index (t ∷ ts) (suc i) d h lt = (later-index ts i d h.1 (omega arith)).0

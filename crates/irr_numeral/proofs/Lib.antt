@@ -5,3 +5,4 @@ pub mod Splits
 pub mod DigitOrder
 pub mod ExponentOrder
 pub mod ZeroDenominators
+pub mod LimitPlaces

@@ -2,7 +2,7 @@
 --   not_digit-behind        what stands behind a term begins with no digit
 --   split_parts             the parts of a term, one after another
 --   digit_of_whole          a whole number begins with a digit, and has only digits
-use Rattle.std.proofs.Common.{◌≡◌, ◌≢◌, refl, sym, ◌∙◌, ap, ap₂, subst, ℕ, zero, suc, ◌<◌, ◌≤◌, ◌+◌, Bool, true, false, List, [], ◌∷◌, ◌++◌, length, append_assoc, append-nil, Option, None, Some, IfSome, IsSome, arith, ◌⊎◌, inl, inr, lit<, ◌-◌, map, take, get_or, IsTrue, IsFalse, length-append}
+use Rattle.std.proofs.Common.{◌≡◌, ◌≢◌, refl, sym, ◌∙◌, ap, ap₂, subst, ℕ, suc, ◌<◌, ◌≤◌, ◌+◌, Bool, true, false, List, [], ◌∷◌, ◌++◌, length, append_assoc, append-nil, Option, None, Some, arith, ◌⊎◌, inl, inr, lit<, ◌-◌, map, take, get_or, IsTrue, IsFalse, length-append}
 use Rattle.std.specs.Option.{option_copied}
 use Rattle.std.proofs.lemmas.Bool.{cases_lt}
 use Rattle.std.proofs.lemmas.List.{take-append-le, get_or_append_left}

@@ -3,12 +3,12 @@
 --   zero-none      there is none
 --   none-more      one term more without
 --   zero-room      its place is in the text
-use Rattle.std.proofs.Common.{◌≡◌, refl, sym, ◌∙◌, ap, subst, ℕ, suc, ◌<◌, ◌≤◌, ◌+◌, List, [], ◌∷◌, ◌++◌, length, length-append, get_or, take, drop, map, Option, Some, All, arith, ◌⊎◌, inl, inr}
+use Rattle.std.proofs.Common.{◌≡◌, refl, sym, ◌∙◌, ap, subst, ℕ, suc, ◌<◌, ◌≤◌, ◌+◌, List, [], ◌∷◌, ◌++◌, length, length-append, get_or, take, drop, map, All, arith, inl, inr}
 use Rattle.std.proofs.lemmas.Bool.{cases_lt}
-use Rattle.std.proofs.lemmas.List.{take-map, get_or-map, length-map, length-take-le, get_or-take}
+use Rattle.std.proofs.lemmas.List.{get_or-map, length-map, length-take-le, get_or-take}
 use Rattle.std.proofs.Math.Seq.{split_at}
 use Rattle.irr_numeral.specs.declared.terms.Written.{Written}
-use Rattle.irr_numeral.specs.WrittenNumber.{WrittenTerm, quotient_text, exponent_text, unsigned_text, spelled_later, spelled}
+use Rattle.irr_numeral.specs.WrittenNumber.{quotient_text, exponent_text, unsigned_text, spelled_later, spelled}
 use Rattle.irr_numeral.specs.TermPlaces.{numerator_place, written_term, ArePlaced, HasZero, IsZeroAt}
 use Rattle.irr_numeral.proofs.Splits.{place_of}
 use Rattle.irr_numeral.proofs.ExponentOrder.{place-at}
@@ -16,7 +16,7 @@ use Rattle.irr_numeral.proofs.ExponentOrder.{place-at}
 abbrev pub HaveNone : List Written → ℕ → Type 0
 HaveNone ws i = (k : ℕ) (d : Written) → k < i → ¬ (HasZero (written_term (get_or ws k d)))
 
-parts_at : (ws : List Written) (i : ℕ) (d : Written) → i < length ws → map written_term ws ≡ take i (map written_term ws) ++ (written_term (get_or ws i d) ∷ drop (suc i) (map written_term ws))
+pub parts_at : (ws : List Written) (i : ℕ) (d : Written) → i < length ws → map written_term ws ≡ take i (map written_term ws) ++ (written_term (get_or ws i d) ∷ drop (suc i) (map written_term ws))
 parts_at ws i d lt = split_at (map written_term ws) i (written_term d) (omega (arith, lt, length-map ws written_term))
     ∙ ap (λ u. take i (map written_term ws) ++ (u ∷ drop (suc i) (map written_term ws))) (get_or-map written_term ws i d (written_term d) lt)
 

@@ -4,3 +4,4 @@ pub mod Front
 pub mod Split
 pub mod TermPlaces
 pub mod NumberFault
+pub mod NumberLimit

@@ -1,7 +1,7 @@
 -- How a text parts into a term and what stands behind it.
 --   IsBehindTerm ys      ys is empty or begins with a sign
 --   IsSplit t ys r       the parts r are those of the term t and the text ys
-use Rattle.std.specs.Prelude.{ℕ, ◌≡◌, ◌⊎◌, List, [], ◌∷◌, Option}
+use Rattle.std.specs.Prelude.{ℕ, ◌≡◌, ◌⊎◌, List, [], ◌∷◌}
 use Rattle.std.specs.Option.{option_copied}
 use Rattle.irr_numeral.specs.declared.terms.Parts.{Parts}
 use Rattle.irr_numeral.specs.WrittenNumber.{WrittenTerm}

@@ -5,7 +5,7 @@
 --   HasZero t           the denominator of t is 0
 --   IsZeroAt ts p       the first denominator that is 0 begins at p
 --   IsUnorderedAt ts p  the first exponent that is not above the one before it begins at p
-use Rattle.std.specs.Prelude.{ℕ, ◌≡◌, ◌+◌, ◌<◌, ◌≤◌, List, [], ◌∷◌, ◌++◌, length, take, map, slice_index_or, Option, Some, All}
+use Rattle.std.specs.Prelude.{ℕ, ◌≡◌, ◌+◌, ◌<◌, ◌≤◌, List, [], ◌∷◌, ◌++◌, length, take, map, slice_index_or, Some, All}
 use Rattle.std.specs.Option.{option_copied}
 use Rattle.irr_numeral.specs.declared.terms.Written.{Written}
 use Rattle.irr_numeral.specs.WrittenNumber.{WrittenTerm, first_sign, spelled, quotient_text, exponent_of, AreIncreasing}

@@ -1,6 +1,7 @@
 //! The text of a number: its printed form, and texts as they are read.
 #![tactic(auto)]
 
+mod limits;
 mod order;
 mod print;
 mod read;

@@ -28,7 +28,7 @@ pub(crate) fn first_unordered(terms: &[Written]) -> Option<usize>
 }
 
 // The place of a term's exponent.
-fn exponent_place(term: &Written) -> usize
+pub(crate) fn exponent_place(term: &Written) -> usize
     requires { let t = written_term term.now in term.now.place + length (t.numerator ++ quotient_text t.denominator) + 3 < 2 ^ 64 }
     ensures { let t = written_term term.now in result ≡ term.now.place + length (t.numerator ++ quotient_text t.denominator) + 3 }
 {

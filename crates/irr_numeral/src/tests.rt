@@ -36,14 +36,17 @@ fn texts_leave_the_grammar_at_one_place(rt: HostRuntime) {
         ("1*z^1+1", NumberError::Shape(7)),
         ("1*z^2+1*z^1", NumberError::Shape(10)),
         ("1*z^10-1*z^9/0", NumberError::Shape(12)),
+        ("1*z^3", NumberError::Range(4)),
+        ("1073741825", NumberError::Range(0)),
+        ("1073741824/4097", NumberError::Range(11)),
         ("1/0", NumberError::Zero(2)),
         ("-1/2+3/0*z^1-1/0*z^2", NumberError::Zero(7)),
     ] {
-        let read = read_terms(rt.alloc(), text.as_bytes());
+        let read = read_terms(rt.alloc(), 3, text.as_bytes());
         assert!(rt; read.err() == Some(error), "{text}");
     }
-    for (text, count) in [("0", 0), ("-1/2-3*z^7", 2), ("2/4*z^3", 1)] {
-        let read = read_terms(rt.alloc(), text.as_bytes());
+    for (text, count) in [("0", 0), ("-1/2-3*z^2", 2), ("1073741824/4096*z^1", 1)] {
+        let read = read_terms(rt.alloc(), 3, text.as_bytes());
         assert!(rt; read.ok().map(|terms| terms.len()) == Some(count), "{text}");
     }
 }

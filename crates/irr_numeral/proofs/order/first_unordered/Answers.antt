@@ -1,10 +1,9 @@
 -- Term by term.
-use Rattle.std.proofs.Common.{rules, arith, ◌≡◌, ◌<◌, ◌∙◌, sym, refl, ap, subst, ℕ, List, Some, None, Option, length, get_or, map, true, ◌+◌, Bor}
+use Rattle.std.proofs.Common.{arith, ◌≡◌, sym, ap, subst, ℕ, List, map, true, ◌+◌, Bor}
 use Rattle.std.specs.Option.{option_copied}
-use Rattle.std.specs.Str.Parse.{digits_value}
 use Rattle.std.proofs.lemmas.List.{length-map}
 use Rattle.irr_numeral.specs.TermPlaces.{written_term}
-use Rattle.irr_numeral.proofs.ExponentOrder.{IsOrderedTo, IsExponentAt, exponent-at, place-at, ordered-term, ordered-without, unordered-term, all-increase, no_term}
+use Rattle.irr_numeral.proofs.ExponentOrder.{IsOrderedTo, exponent-at, place-at, ordered-term, ordered-without, unordered-term, all-increase, no_term}
 use Rattle.irr_numeral.proofs.order.first_unordered.Goals.{in-Some+else-not-is_below, in_default}
 use Rattle.irr_numeral.proofs.order.first_unordered.Goals as goal
 

@@ -1,5 +1,5 @@
 -- By length, by the first digit that differs, or not at all.
-use Rattle.std.proofs.Common.{rules, arith, ◌≡◌, ◌≢◌, ◌<◌, ◌≤◌, ℕ, refl, length, get_or}
+use Rattle.std.proofs.Common.{arith, refl}
 use Rattle.irr_numeral.proofs.DigitOrder.{told-by_length, told-by_digit, told-by_all}
 use Rattle.irr_numeral.proofs.order.is_below.Goals as goal
 

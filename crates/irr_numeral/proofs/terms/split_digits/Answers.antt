@@ -1,5 +1,5 @@
 -- A text parts into digits and a rest that begins with none in one way.
-use Rattle.std.proofs.Common.{◌∙◌, List, ℕ, take, drop}
+use Rattle.std.proofs.Common.{◌∙◌, take, drop}
 use Rattle.std.proofs.lemmas.List.{take-append-drop}
 use Rattle.irr_digits.proofs.Numerals.{run_unique}
 use Rattle.irr_numeral.proofs.terms.split_digits.Goals as goal

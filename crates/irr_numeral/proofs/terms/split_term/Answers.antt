@@ -1,5 +1,5 @@
 -- The numerator, then a denominator if a slash follows, then an exponent if *z^ follows.
-use Rattle.std.proofs.Common.{◌≡◌, ◌≢◌, ◌∙◌, sym, refl, ap, List, [], ℕ, Some, None, Option, ◌++◌, ◌∷◌, IfSome}
+use Rattle.std.proofs.Common.{◌≡◌, ◌≢◌, ◌∙◌, sym, List, [], ℕ, Some, None, Option, ◌++◌, ◌∷◌, IfSome}
 use Rattle.std.specs.Option.{option_copied}
 use Rattle.std.specs.Str.Parse.{AllDigits}
 use Rattle.irr_digits.specs.DigitRun.{BeginsWithDigit}

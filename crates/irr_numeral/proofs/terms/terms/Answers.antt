@@ -1,8 +1,8 @@
 -- Term by term.
-use Rattle.std.proofs.Common.{rules, arith, ◌≡◌, ◌≤◌, ◌<◌, ◌∙◌, sym, refl, ◌-◌, ap, subst, ℕ, List, length, map}
+use Rattle.std.proofs.Common.{arith, ◌≡◌, ◌<◌, sym, refl, ◌-◌, subst, length, map}
 use Rattle.std.proofs.lemmas.Grind.{common_steps}
 use Rattle.irr_numeral.specs.TermPlaces.{written_term}
-use Rattle.irr_numeral.proofs.Splits.{IsReadTo, IsNext, IsSignSplit, next-term, unsigned-fits, rest-smaller, read-more, read-all}
+use Rattle.irr_numeral.proofs.Splits.{IsReadTo, IsSignSplit, next-term, unsigned-fits, rest-smaller, read-more, read-all}
 use Rattle.irr_numeral.proofs.terms.terms.Goals as goal
 
 pub overflow_sub-text : goal.overflow_sub-text

@@ -1,8 +1,5 @@
 -- Term by term.
-use Rattle.std.proofs.Common.{rules, arith, ◌≡◌, ◌<◌, ◌∙◌, sym, refl, ap, get_or, true, subst, ℕ}
-use Rattle.std.proofs.lemmas.Bool.{cases_lt}
-use Rattle.irr_numeral.specs.declared.terms.Written.{Written}
-use Rattle.irr_numeral.specs.TermPlaces.{HasZero, written_term}
+use Rattle.std.proofs.Common.{arith, ◌≡◌, refl, true}
 use Rattle.irr_numeral.proofs.ExponentOrder.{no_term}
 use Rattle.irr_numeral.proofs.ZeroDenominators.{zero-at, zero-none, zero-room, none-more}
 use Rattle.irr_numeral.proofs.zero.first_zero.Goals as goal
