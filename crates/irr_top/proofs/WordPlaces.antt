@@ -1,6 +1,6 @@
 -- Which words are a command, and which word is the first faulty one.
 --   small_unique               words spell one wave vector at most
---   place_unique, faulty_unique    a text leaves a grammar at one place, and words are faulty at one
+--   faulty_unique              words are faulty at one place
 --   zero_wave                  0,0,0 is a wave vector within the limits
 --   faulty_at_once, faulty_first   there is no first word, or it is not `small`
 --   faulty_missing, faulty_second  there is no second word, or it is no wave vector
@@ -12,7 +12,8 @@ use Rattle.std.specs.Int.RustNames.{unsigned_abs}
 use native.Mathlib.Nat as Nat
 use Rattle.irr_algebra.specs.Fin.{Fin, to_nat}
 use Rattle.irr_algebra.specs.Fin.Fin.{first, next}
-use Rattle.irr_grammar.specs.ShapePlace.{BeginsIn, IsShapePlace}
+use Rattle.irr_grammar.specs.ShapePlace.{BeginsIn}
+use Rattle.irr_grammar.proofs.ShapePlaces.{place_unique}
 use Rattle.irr_rational.specs.Rational.{ratio}
 use Rattle.irr_rational.specs.Ratio.{AreLowest, IsLowest, entry}
 use Rattle.irr_rational.proofs.ListedRatios.{ratios-at}
@@ -26,12 +27,6 @@ pub small_unique : (words : List (List ℕ)) (k l : WaveVector) → IsSmall word
 small_unique words k l h g =
     let both : codes "small" ∷ wave_text k ∷ [] ≡ codes "small" ∷ wave_text l ∷ [] = sym h.spelled ∙ g.spelled in
     wave_text_unique k l h.within g.within (cc)
-
-pub place_unique : {A : Type 0} (G : List A → Type 0) (xs : List A) (m n : ℕ) → IsShapePlace G xs m → IsShapePlace G xs n → m ≡ n
-place_unique G xs m n h g =
-    let le : m ≤ n = g.longest m h.within h.begins in
-    let ge : n ≤ m = h.longest n g.within g.begins in
-    omega arith
 
 pub faulty_unique : (words : List (List ℕ)) (m n : ℕ) → IsFaulty words m → IsFaulty words n → m ≡ n
 faulty_unique words m n h g = h.is_next ∙ ap suc (place_unique IsCommand words h.right g.right h.is_place g.is_place) ∙ sym g.is_next

@@ -1,0 +1,2 @@
+pub mod ShapePlaces
+pub mod Recognisers

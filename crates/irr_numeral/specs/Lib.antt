@@ -1,0 +1,7 @@
+pub mod PrintedTerm
+pub mod WrittenNumber
+pub mod Front
+pub mod Split
+pub mod TermPlaces
+pub mod NumberFault
+pub mod NumberLimit

@@ -1,0 +1,65 @@
+// How a number's text is read.
+ghost use Rattle.std.specs.Prelude.{◌≡◌, ◌<◌, map, All, IfErr, IfOk};
+ghost use Rattle.irr_numeral.specs.NumberFault.{IsFault};
+ghost use Rattle.irr_numeral.specs.NumberLimit.{IsWithin};
+ghost use Rattle.irr_numeral.specs.TermPlaces.{ArePlaced, HasZero, written_term};
+ghost use Rattle.irr_numeral.specs.WrittenNumber.{AreIncreasing, AreTerms, spelled};
+
+use crate::limits::first_beyond;
+use crate::order::first_unordered;
+use crate::shape::check_shape;
+use crate::terms::{Written, terms};
+use crate::zero::first_zero;
+use std::alloc::Global;
+use thiserror::Error;
+
+/// Why a text is no number. Places count bytes from 0.
+#[derive(Clone, Copy, Debug, PartialEq, Eq, Error)]
+pub enum NumberError {
+    /// The text is not in the grammar, from this place on.
+    #[error("shape at byte {0}")]
+    Shape(u64),
+    /// The denominator at this place is 0.
+    #[error("zero at byte {0}")]
+    Zero(u64),
+    /// The number at this place passes its limit.
+    #[error("range at byte {0}")]
+    Range(u64),
+    /// No memory was found.
+    #[error("out of memory")]
+    Memory,
+}
+
+/// The terms of a number's text of the order n, whose exponents increase, whose denominators are not 0, and
+/// whose numbers are within their limits; the common denominator and the size are not looked at.
+pub(crate) fn read_terms<'a>(
+    alloc: Global,
+    n: u32,
+    text: &'a [u8],
+) -> Result<Vec<Written<'a>>, NumberError>
+    requires { 0 < n }
+    ensures are_terms { IfOk result (λ ws. AreTerms (map written_term ws.items)) }
+    ensures spells { IfOk result (λ ws. spelled (map written_term ws.items) ≡ text.now) }
+    ensures placed { IfOk result (λ ws. ArePlaced ws.items) }
+    ensures ordered { IfOk result (λ ws. AreIncreasing (map written_term ws.items)) }
+    ensures not_zero { IfOk result (λ ws. All (λ t. ¬ (HasZero t)) (map written_term ws.items)) }
+    ensures within { IfOk result (λ ws. All (IsWithin n) (map written_term ws.items)) }
+    ensures fault { IfErr result (λ e. IsFault n text.now e) }
+{
+    if let Err(place) = check_shape(text) {
+        return Err(NumberError::Shape(place as u64));
+    }
+    let Ok(terms) = terms(alloc, text) else {
+        return Err(NumberError::Memory);
+    };
+    if let Some(place) = first_unordered(terms.as_slice()) {
+        return Err(NumberError::Shape(place as u64));
+    }
+    if let Some(place) = first_zero(terms.as_slice()) {
+        return Err(NumberError::Zero(place as u64));
+    }
+    if let Some(place) = first_beyond(terms.as_slice(), n) {
+        return Err(NumberError::Range(place as u64));
+    }
+    Ok(terms)
+}

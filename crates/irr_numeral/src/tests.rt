@@ -1,0 +1,52 @@
+use crate::read::read_terms;
+use crate::{NumberError, print_number};
+use irr_cyc::{Dense, ORDER_LIMIT, Order, Scalar};
+use std::test::Fail;
+
+// Sums of powers of z in the basis: of order 3, z^2 is -1 - z, of order 6 z is -z^4, of order 12 z^2 is 1 + z^4.
+#[test]
+fn numbers_print_in_the_basis(rt: HostRuntime) -> Result<(), Fail> {
+    let rows: [(u32, u64, u32, i64, &str); 8] = [
+        (3, 1, 2, 1, "-1-1*z^1"),
+        (6, 1, 1, 1, "-1*z^4"),
+        (6, 1, 5, 1, "1+1*z^4"),
+        (12, 1, 2, 1, "1+1*z^4"),
+        (4, 4, 3, 2, "-1/2*z^1"),
+        (1, 1, 0, 16_777_217, "16777217"),
+        (3, 1, 1, 0, "0"),
+        (3, 1, 1, 1, "1*z^1"),
+    ];
+    for (n, den, exponent, coefficient, text) in rows {
+        assert!(rt; 0 < n && n <= ORDER_LIMIT && exponent < n && 0 < den && den <= 4);
+        assert!(rt; -20_000_000 < coefficient && coefficient < 20_000_000);
+        let order = Order::new(rt.alloc(), n)?;
+        let number = Dense::from_terms(rt.alloc(), &order, den, &[(exponent, coefficient)])?;
+        let printed = print_number(rt.alloc(), &number)?;
+        assert!(rt; printed.as_slice() == text.as_bytes(), "{text}");
+    }
+    Ok(())
+}
+
+#[test]
+fn texts_leave_the_grammar_at_one_place(rt: HostRuntime) {
+    for (text, error) in [
+        ("", NumberError::Shape(0)),
+        ("z", NumberError::Shape(0)),
+        ("01", NumberError::Shape(1)),
+        ("1*z^1+1", NumberError::Shape(7)),
+        ("1*z^2+1*z^1", NumberError::Shape(10)),
+        ("1*z^10-1*z^9/0", NumberError::Shape(12)),
+        ("1*z^3", NumberError::Range(4)),
+        ("1073741825", NumberError::Range(0)),
+        ("1073741824/4097", NumberError::Range(11)),
+        ("1/0", NumberError::Zero(2)),
+        ("-1/2+3/0*z^1-1/0*z^2", NumberError::Zero(7)),
+    ] {
+        let read = read_terms(rt.alloc(), 3, text.as_bytes());
+        assert!(rt; read.err() == Some(error), "{text}");
+    }
+    for (text, count) in [("0", 0), ("-1/2-3*z^2", 2), ("1073741824/4096*z^1", 1)] {
+        let read = read_terms(rt.alloc(), 3, text.as_bytes());
+        assert!(rt; read.ok().map(|terms| terms.len()) == Some(count), "{text}");
+    }
+}
