@@ -1,0 +1,14 @@
+pub mod Rows
+pub mod Pigeons
+pub mod Closure
+pub mod Denominators
+pub mod Keeping
+pub mod Identity
+pub mod Lattice
+pub mod Settling
+pub mod Gathering
+pub mod Standing
+pub mod Seeds
+pub mod Multiples
+pub mod Rotating
+pub mod Bareness

@@ -1,0 +1,87 @@
+// The group that generators generate.
+ghost use Rattle.std.specs.Prelude.{ℕ, ◌≡◌, ◌<◌, ◌↔◌, length, IfOk, IfErr, unsigned_abs};
+ghost use Rattle.std.specs.List.{All};
+ghost use Rattle.irr_space.specs.Operation.{Operation};
+ghost use Rattle.irr_space.specs.SpaceGroup.{Generated};
+ghost use Rattle.irr_seitz.specs.OperationMeaning.{operation, AreWithin};
+ghost use Rattle.irr_close.specs.Limits.{operations};
+ghost use Rattle.irr_close.specs.Closing.{IsGenerator};
+ghost use Rattle.irr_close.specs.Centring.{AreInvertible};
+ghost use Rattle.irr_close.specs.Bare.{AreBare};
+ghost use Rattle.irr_close.specs.StandsFor.{stands_for, IsAccepted, IsRefusal};
+
+use crate::CloseError;
+use crate::centring::close_centrings;
+use crate::closing::{close_rotations, first_of_each};
+use crate::denominator::have_small_denominator;
+use irr_rat::Vec3;
+use irr_seitz::{Op, Phase};
+use std::alloc::Global;
+
+/// A space group modulo the whole translations: an operation for each rotation, the translations in the unit
+/// cell, and the sign of the phase.
+#[derive(Drop)]
+pub struct Group {
+    ops: Vec<Op>,
+    centrings: Vec<Vec3>,
+    phase: Phase,
+}
+
+impl Group {
+    /// The sign of the phase that was handed to `close`.
+    pub fn phase(&self) -> Phase
+        ensures { result ≡ self.now.phase }
+    {
+        self.phase
+    }
+}
+
+fn bare(op: &Op) -> Op
+    ensures rotation { (operation result).rotation ≡ (operation op.now).rotation }
+    ensures numerators { AreWithin 0 result.num }
+    ensures denominator { result.den ≡ 1 }
+{
+    let rot = op.rot;
+    Op {
+        rot,
+        num: [0, 0, 0],
+        den: 1,
+    }
+}
+
+// The operations with the vector 0.
+fn without_vectors(alloc: Global, ops: &[Op]) -> Result<Vec<Op>, CloseError>
+    ensures bare { IfOk result (λ bare. AreBare ops.now bare.items (length ops.now)) }
+    ensures memory { IfErr result (λ e. e ≡ CloseError.Memory) }
+{
+    let mut made = Vec::new(alloc);
+    for op in ops {
+        made.push(bare(op))?;
+    }
+    Ok(made)
+}
+
+/// The group that operations and the unit translations generate (International Tables A, section 1.4; Bradley
+/// and Cracknell, section 1.5).
+pub fn close(alloc: Global, generators: &[Op], phase: Phase) -> Result<Group, CloseError>
+    requires generators { All IsGenerator generators.now }
+    requires invertible { AreInvertible generators.now }
+    ensures group { IfOk result (λ group. (g : Operation) → stands_for group g ↔ Generated (operations generators.now) g) }
+    ensures phase { IfOk result (λ group. group.phase ≡ phase) }
+    ensures accepted { IfOk result (λ _. IsAccepted generators.now) }
+    ensures refused { IfErr result (IsRefusal generators.now) }
+{
+    let seeds = first_of_each(alloc, generators)?;
+    if !have_small_denominator(generators) {
+        let bare = without_vectors(alloc, &seeds)?;
+        let _ops = close_rotations(alloc, &bare)?;
+        return Err(CloseError::Denominator);
+    }
+    let ops = close_rotations(alloc, &seeds)?;
+    let centrings = close_centrings(alloc, generators, &ops)?;
+    Ok(Group {
+        ops,
+        centrings,
+        phase,
+    })
+}
