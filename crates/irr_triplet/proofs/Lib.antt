@@ -1,1 +1,2 @@
 pub mod TermTexts
+pub mod TermShapes
