@@ -29,7 +29,7 @@ use Rattle.irr_text.specs.WaveText.{wave_text, IsWithinLimits}
 use Rattle.irr_text.proofs.RationalForm.{numerator-lowest, rational_text-lowest, numerator_is_lowest}
 use Rattle.irr_rat.specs.Lowest.{AreThreeLowest}
 use Rattle.irr_kvec.specs.WaveMeaning.{wave_of}
-use Rattle.irr_top.proofs.FractionTexts.{split_unique, fraction_text_lack, fraction_unique}
+use Rattle.irr_rat.proofs.FractionTexts.{split_unique, fraction_text_lack, fraction_unique}
 
 pub component-is : (xs : List ℤ) (d : ℕ) (i : Fin 3) → wave_component (wave_of xs d) i ≡ ratios xs d i
 unfolding wave_component wave_of

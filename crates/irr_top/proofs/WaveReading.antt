@@ -1,5 +1,4 @@
 -- Reading a wave vector: what its parts at the commas, their fractions and the common denominator say.
---   weaker                     a fact on what an option holds
 --   no_first, no_second        a wave vector's text has two commas
 --   three_parts                and its parts are the texts of the components
 --   common_gcd                 the greatest common divisor of three machine numbers and a denominator
@@ -24,15 +23,12 @@ use Rattle.irr_space.specs.Operation.{WaveVector, wave_component}
 use Rattle.irr_text.specs.NumberText.{fraction_text}
 use Rattle.irr_text.specs.WaveText.{wave_text, IsWithinLimits}
 use Rattle.irr_rat.specs.Lowest.{AreThreeLowest}
+use Rattle.irr_rat.proofs.PrintedFractions.{kept_within}
 use Rattle.irr_kvec.specs.WaveMeaning.{wave_of, wave_vector}
 use Rattle.irr_kvec.specs.declared.wave.Wave.{Wave}
-use Rattle.irr_top.proofs.FractionTexts.{split_none}
+use Rattle.irr_rat.proofs.FractionTexts.{split_none}
 use Rattle.irr_top.proofs.CommonTerms.{IsCommonGcd, three_gcd, ratio_scaled}
 use Rattle.irr_top.proofs.WaveForms.{component-is, part, part_lack, parts_at_comma, parts_at_second, wave_text-parts, same_components, text_of_parts, within_of_parts}
-
-pub weaker : {T : Type 0} (P Q : T → Type 0) → ((x : T) → P x → Q x) → (r : Option T) → IsSomeAnd r P → IsSomeAnd r Q
-weaker P Q f None h = h
-weaker P Q f (Some x) h = f x h
 
 -- the commas
 
@@ -50,16 +46,6 @@ three_parts k word s t u v h before found before' found' e =
     (one.0, two.0, two.1)
 
 -- machine numbers
-
-pub kept_within : (a : ℤ) → unsigned_abs a ≤ 100000 → to_z w64 (of_z w64 a) ≡ a
-kept_within a h = to_z-of_z w64 a (fits_signed_from_abs w64 a (omega arith))
-
-pub lowest_over_one : (a : ℤ) → IsLowest a 1
-lowest_over_one a = record { positive = omega arith; lowest = λ d v w. Nat.dvd_antisymm v (Nat.one-dvd d) }
-
--- a fraction in lowest terms has the greatest common divisor 1
-pub gcd-one : (a : ℤ) (b u g : ℕ) → IsLowest a b → u ≡ unsigned_abs a → IsGcd u b g → g ≡ 1
-gcd-one a b u g low e h = same_from_IsGcd (unsigned_abs a) b g 1 (subst (λ n. IsGcd n b g) e h) (gcd_of_lowest a b low)
 
 pub common_gcd : (num : List ℤ) (b u v w d e g : ℕ) → FitsSigned w64 (get_or num 0 (pos 0)) → FitsSigned w64 (get_or num 1 (pos 0)) → FitsSigned w64 (get_or num 2 (pos 0))
     → u ≡ unsigned_abs (to_z w64 (of_z w64 (get_or num 0 (pos 0)))) → v ≡ unsigned_abs (to_z w64 (of_z w64 (get_or num 1 (pos 0)))) → w ≡ unsigned_abs (to_z w64 (of_z w64 (get_or num 2 (pos 0))))

@@ -1,5 +1,5 @@
 // Reading of the terms of a component, exactly as they print.
-ghost use Rattle.std.specs.Prelude.{ℕ, ℤ, pos, Bool, List, ◌≢◌, ◌<◌, unsigned_abs, ◌≡◌, ◌++◌, ◌∷◌, ◌≤◌, IfSome, IsNone};
+ghost use Rattle.std.specs.Prelude.{All, ℕ, ℤ, pos, Bool, List, ◌≢◌, ◌<◌, unsigned_abs, ◌≡◌, ◌++◌, ◌∷◌, ◌≤◌, IfSome, IsNone};
 ghost use Rattle.irr_text.specs.TripletText.{letter_text};
 ghost use Rattle.irr_triplet.specs.Shapes.{sign_byte, size_text, signed_of};
 
@@ -67,4 +67,20 @@ pub(crate) fn term<'a>(terms: Terms<'a>, letter: u8) -> (i16, Terms<'a>)
     } else {
         (coefficient, rest)
     }
+}
+
+// The coefficients of x, y and z in this order, and the terms behind them.
+pub(crate) fn letters<'a>(terms: Terms<'a>) -> (i16, i16, i16, Terms<'a>)
+    ensures within { (unsigned_abs result.0 ≤ 9) × (unsigned_abs result.1 ≤ 9) × (unsigned_abs result.2 ≤ 9) }
+    ensures found { signed_of terms.entry.plus terms.entry.text.now
+        ≡ letter_text result.0 120 ++ (letter_text result.1 121 ++ (letter_text result.2 122 ++ signed_of result.3.plus result.3.text.now)) }
+    ensures only { (x y z : ℤ) (rest : List ℕ) → unsigned_abs x ≤ 9 → unsigned_abs y ≤ 9 → unsigned_abs z ≤ 9
+        → All (λ b. b ≢ 120) rest → All (λ b. b ≢ 121) rest → All (λ b. b ≢ 122) rest
+        → signed_of terms.entry.plus terms.entry.text.now ≡ letter_text x 120 ++ (letter_text y 121 ++ (letter_text z 122 ++ rest))
+        → (result.0 ≡ x) × (result.1 ≡ y) × (result.2 ≡ z) × (signed_of result.3.plus result.3.text.now ≡ rest) }
+{
+    let (x, behind_x) = term(terms, b'x');
+    let (y, behind_y) = term(behind_x, b'y');
+    let (z, behind_z) = term(behind_y, b'z');
+    (x, y, z, behind_z)
 }
