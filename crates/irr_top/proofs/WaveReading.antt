@@ -5,30 +5,28 @@
 --   common_components          the components of three fractions over the product of their denominators
 --   common_unique              over the least common denominator there is one form
 --   found_of_common, only_of_common    so the wave vector is the one of the text
-use Rattle.std.proofs.Common.{◌≡◌, ◌≢◌, refl, sym, ◌∙◌, ap, ap₂, subst, ℕ, ◌<◌, ◌≤◌, ◌*◌, ℤ, pos, ◌*ℤ◌, List, [], ◌∷◌, ◌++◌, Option, None, Some, IfSome, IsNone, FitsSigned, to_z, of_z, w64, get_or, arith, mul-pos}
+use Rattle.std.proofs.Common.{◌≡◌, ◌≢◌, refl, sym, ◌∙◌, ap, subst, ℕ, ◌<◌, ◌≤◌, ◌*◌, ℤ, pos, ◌*ℤ◌, List, [], ◌∷◌, ◌++◌, Option, None, Some, IfSome, IsNone, FitsSigned, to_z, of_z, w64, get_or, arith, mul-pos}
 use Rattle.std.specs.Prelude.{IsSomeAnd}
 use Rattle.std.specs.List.{All}
-use Rattle.std.specs.Int.{◌∣◌, IsGcd}
+use Rattle.std.specs.Int.{IsGcd}
 use Rattle.std.specs.Int.RustNames.{unsigned_abs}
-use Rattle.std.proofs.lemmas.Int.{to_z-of_z, fits_signed_from_abs}
-use Rattle.std.proofs.lemmas.Nat.Gcd.{same_from_IsGcd}
+use Rattle.std.proofs.lemmas.Int.{to_z-of_z}
 use native.Mathlib.Nat as Nat
 use Rattle.irr_algebra.specs.Fin.{Fin, to_nat}
 use Rattle.irr_algebra.specs.Fin.Fin.{first, next}
 use Rattle.irr_rational.specs.Rational.{Rational, ratio}
 use Rattle.irr_rational.specs.Ratio.{AreLowest, IsLowest, entry, ratios}
 use Rattle.irr_rational.proofs.ListedRatios.{ratios-at}
-use Rattle.irr_rational.proofs.LowestTerms.{are_lowest_unique, gcd_of_lowest}
+use Rattle.irr_rational.proofs.LowestTerms.{are_lowest_unique}
 use Rattle.irr_space.specs.Operation.{WaveVector, wave_component}
 use Rattle.irr_text.specs.NumberText.{fraction_text}
 use Rattle.irr_text.specs.WaveText.{wave_text, IsWithinLimits}
 use Rattle.irr_rat.specs.Lowest.{AreThreeLowest}
-use Rattle.irr_rat.proofs.PrintedFractions.{kept_within}
 use Rattle.irr_kvec.specs.WaveMeaning.{wave_of, wave_vector}
 use Rattle.irr_kvec.specs.declared.wave.Wave.{Wave}
 use Rattle.irr_rat.proofs.FractionTexts.{split_none}
 use Rattle.irr_top.proofs.CommonTerms.{IsCommonGcd, three_gcd, ratio_scaled}
-use Rattle.irr_top.proofs.WaveForms.{component-is, part, part_lack, parts_at_comma, parts_at_second, wave_text-parts, same_components, text_of_parts, within_of_parts}
+use Rattle.irr_top.proofs.WaveForms.{component-is, part, parts_at_comma, parts_at_second, wave_text-parts, same_components, text_of_parts, within_of_parts}
 
 -- the commas
 

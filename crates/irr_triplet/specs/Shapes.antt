@@ -2,7 +2,7 @@
 --   sign_byte negative      - or +
 --   size_text n letter      the letter with the coefficient n, which is not printed where it is 1
 --   signed_of plus text     the text, with a + before it where plus is true
-use Rattle.std.specs.Prelude.{ℕ, suc, zero, Bool, true, false, List, [], ◌∷◌, ◌+◌}
+use Rattle.std.specs.Prelude.{ℕ, suc, Bool, true, false, List, [], ◌∷◌, ◌+◌}
 
 abbrev pub sign_byte : Bool → ℕ
 sign_byte true = 45

@@ -1,5 +1,5 @@
 -- The greatest common divisor of a numerator and a denominator.
-use Rattle.std.proofs.Common.{◌≡◌, ◌∙◌, ap, subst, ℕ, ℤ, unsigned_abs, w64}
+use Rattle.std.proofs.Common.{◌≡◌, ◌∙◌, ap, subst, ℕ, unsigned_abs, w64}
 use Rattle.std.specs.Int.{IsGcd}
 use Rattle.std.proofs.lemmas.Int.{to_z-of_z}
 use Rattle.irr_number.proofs.Primes.{divisor_pos}

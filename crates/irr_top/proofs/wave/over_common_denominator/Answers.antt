@@ -1,4 +1,4 @@
-use Rattle.std.proofs.Common.{◌∙◌, ap, ap₂, w64, pos, ◌*ℤ◌, ◌*◌, subst, ◌<◌, ◌≡◌, arith}
+use Rattle.std.proofs.Common.{◌∙◌, ap, ap₂, w64, pos, ◌*ℤ◌, ◌*◌, ◌≡◌, arith}
 use Rattle.std.proofs.lemmas.Int.{to_z-of_z}
 use Rattle.irr_rational.specs.Rational.{ratio}
 use Rattle.irr_rat.proofs.PrintedFractions.{kept_within}

@@ -1,6 +1,5 @@
 -- The three letters of a component.
-use Rattle.std.proofs.Common.{◌≡◌, ◌∙◌, ap, sym, List, ℕ, ◌++◌}
-use Rattle.irr_text.specs.TripletText.{letter_text}
+use Rattle.std.proofs.Common.{◌∙◌}
 use Rattle.irr_triplet.specs.Shapes.{signed_of}
 use Rattle.irr_triplet.proofs.TermReading.{letters_found, letters_unique, kept_small}
 use Rattle.irr_triplet.proofs.read.letters.Goals as goal

@@ -1,5 +1,5 @@
 -- Fractions in lowest terms.
-use Rattle.std.proofs.Common.{◌≡◌, ◌∙◌, ◌/◌, ◌<◌, ap, ap₂, sym, subst, ℕ, ℤ, pos, unsigned_abs, w64, to_z, of_z, rules}
+use Rattle.std.proofs.Common.{◌≡◌, ◌∙◌, ◌/◌, ap, ap₂, sym, subst, pos, unsigned_abs, w64, to_z, of_z, rules}
 use mir.Val.{SFits}
 use Rattle.std.specs.Int.{IsGcd, w128}
 use Rattle.std.specs.Int.RustNames.{int_div}
