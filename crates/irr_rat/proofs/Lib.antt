@@ -4,3 +4,5 @@ pub mod Vectors
 pub mod Lexicographic
 pub mod Reduction
 pub mod Fractions
+pub mod FractionTexts
+pub mod PrintedFractions

@@ -1,4 +1,4 @@
-use crate::{Ratio, Vec3, gcd, lcm_checked};
+use crate::{Fraction, Ratio, Vec3, gcd, lcm_checked, printed_fraction, split_around};
 use std::cmp::Ordering;
 
 #[test]
@@ -38,4 +38,26 @@ fn fractions_over_two_types(rt: HostRuntime) {
     assert!(rt; short.num == 1);
     assert!(rt; short.den == 3);
     assert!(rt; short.floor() == 0);
+}
+
+#[test]
+fn fractions_are_read_as_they_print(rt: HostRuntime) {
+    for (text, value) in [
+        ("0", Some((0, 1))),
+        ("-3/4", Some((-3, 4))),
+        ("100000", Some((100_000, 1))),
+        ("", None),
+        ("2/4", None),
+        ("3/1", None),
+        ("1/0", None),
+        ("01/2", None),
+        ("+1", None),
+        ("100001", None),
+    ] {
+        let read = printed_fraction(text.as_bytes()).map(|x| (x.num, x.den));
+        assert!(rt; read == value, "at {text}");
+    }
+    assert!(rt; split_around(b"x/y/z", b'/') == Some((&b"x"[..], &b"y/z"[..])));
+    let half = Fraction::new(-2, 4);
+    assert!(rt; half.num == -1 && half.den == 2);
 }

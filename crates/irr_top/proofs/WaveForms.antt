@@ -8,17 +8,17 @@
 --   wave_of_parts            a wave vector of three fractions in lowest terms is within the limits, and its text is theirs
 --   same_components          wave vectors of the same components are the same
 --   wave_text_unique         a text is that of one wave vector at most
-use Rattle.std.proofs.Common.{◌≡◌, ◌≢◌, refl, sym, ◌∙◌, ap, ap₂, subst, ℕ, ◌<◌, ◌≤◌, ◌^◌, ◌*◌, ℤ, pos, List, [], ◌∷◌, ◌++◌, append_assoc, arith, lit≤}
+use Rattle.std.proofs.Common.{◌≡◌, ◌≢◌, refl, sym, ◌∙◌, ap, ap₂, subst, ℕ, ◌<◌, ◌≤◌, ℤ, List, ◌∷◌, ◌++◌, append_assoc, arith, lit≤}
 use Rattle.std.specs.List.{All}
 use Rattle.std.specs.Int.{◌∣◌}
 use Rattle.std.specs.Int.RustNames.{unsigned_abs}
 use native.Mathlib.Nat as Nat
-use Rattle.irr_algebra.specs.Fin.{Fin, to_nat}
+use Rattle.irr_algebra.specs.Fin.{Fin}
 use Rattle.irr_algebra.specs.Fin.Fin.{first, next}
 use Rattle.irr_algebra.proofs.Indices.{only_first}
 use Rattle.irr_algebra.proofs.Matrices.{matrix-ext}
-use Rattle.irr_rational.specs.Rational.{Rational, rationals, ratio}
-use Rattle.irr_rational.specs.Ratio.{AreLowest, IsLowest, entry, ratios}
+use Rattle.irr_rational.specs.Rational.{ratio}
+use Rattle.irr_rational.specs.Ratio.{IsLowest, entry, ratios}
 use Rattle.irr_rational.proofs.Ratios.{over_of_ratio}
 use Rattle.irr_rational.proofs.ListedRatios.{ratios-at}
 use Rattle.irr_rational.proofs.WholeNumbers.{dvd_of_multiples}
@@ -29,7 +29,7 @@ use Rattle.irr_text.specs.WaveText.{wave_text, IsWithinLimits}
 use Rattle.irr_text.proofs.RationalForm.{numerator-lowest, rational_text-lowest, numerator_is_lowest}
 use Rattle.irr_rat.specs.Lowest.{AreThreeLowest}
 use Rattle.irr_kvec.specs.WaveMeaning.{wave_of}
-use Rattle.irr_top.proofs.FractionTexts.{split_unique, fraction_text_lack, fraction_unique}
+use Rattle.irr_rat.proofs.FractionTexts.{split_unique, fraction_text_lack, fraction_unique}
 
 pub component-is : (xs : List ℤ) (d : ℕ) (i : Fin 3) → wave_component (wave_of xs d) i ≡ ratios xs d i
 unfolding wave_component wave_of

@@ -1,38 +1,32 @@
 -- Reading a wave vector: what its parts at the commas, their fractions and the common denominator say.
---   weaker                     a fact on what an option holds
 --   no_first, no_second        a wave vector's text has two commas
 --   three_parts                and its parts are the texts of the components
 --   common_gcd                 the greatest common divisor of three machine numbers and a denominator
 --   common_components          the components of three fractions over the product of their denominators
 --   common_unique              over the least common denominator there is one form
 --   found_of_common, only_of_common    so the wave vector is the one of the text
-use Rattle.std.proofs.Common.{◌≡◌, ◌≢◌, refl, sym, ◌∙◌, ap, ap₂, subst, ℕ, ◌<◌, ◌≤◌, ◌*◌, ℤ, pos, ◌*ℤ◌, List, [], ◌∷◌, ◌++◌, Option, None, Some, IfSome, IsNone, FitsSigned, to_z, of_z, w64, get_or, arith, mul-pos}
+use Rattle.std.proofs.Common.{◌≡◌, ◌≢◌, refl, sym, ◌∙◌, ap, subst, ℕ, ◌<◌, ◌≤◌, ◌*◌, ℤ, pos, ◌*ℤ◌, List, [], ◌∷◌, ◌++◌, Option, None, Some, IfSome, IsNone, FitsSigned, to_z, of_z, w64, get_or, arith, mul-pos}
 use Rattle.std.specs.Prelude.{IsSomeAnd}
 use Rattle.std.specs.List.{All}
-use Rattle.std.specs.Int.{◌∣◌, IsGcd}
+use Rattle.std.specs.Int.{IsGcd}
 use Rattle.std.specs.Int.RustNames.{unsigned_abs}
-use Rattle.std.proofs.lemmas.Int.{to_z-of_z, fits_signed_from_abs}
-use Rattle.std.proofs.lemmas.Nat.Gcd.{same_from_IsGcd}
+use Rattle.std.proofs.lemmas.Int.{to_z-of_z}
 use native.Mathlib.Nat as Nat
 use Rattle.irr_algebra.specs.Fin.{Fin, to_nat}
 use Rattle.irr_algebra.specs.Fin.Fin.{first, next}
 use Rattle.irr_rational.specs.Rational.{Rational, ratio}
 use Rattle.irr_rational.specs.Ratio.{AreLowest, IsLowest, entry, ratios}
 use Rattle.irr_rational.proofs.ListedRatios.{ratios-at}
-use Rattle.irr_rational.proofs.LowestTerms.{are_lowest_unique, gcd_of_lowest}
+use Rattle.irr_rational.proofs.LowestTerms.{are_lowest_unique}
 use Rattle.irr_space.specs.Operation.{WaveVector, wave_component}
 use Rattle.irr_text.specs.NumberText.{fraction_text}
 use Rattle.irr_text.specs.WaveText.{wave_text, IsWithinLimits}
 use Rattle.irr_rat.specs.Lowest.{AreThreeLowest}
 use Rattle.irr_kvec.specs.WaveMeaning.{wave_of, wave_vector}
 use Rattle.irr_kvec.specs.declared.wave.Wave.{Wave}
-use Rattle.irr_top.proofs.FractionTexts.{split_none}
+use Rattle.irr_rat.proofs.FractionTexts.{split_none}
 use Rattle.irr_top.proofs.CommonTerms.{IsCommonGcd, three_gcd, ratio_scaled}
-use Rattle.irr_top.proofs.WaveForms.{component-is, part, part_lack, parts_at_comma, parts_at_second, wave_text-parts, same_components, text_of_parts, within_of_parts}
-
-pub weaker : {T : Type 0} (P Q : T → Type 0) → ((x : T) → P x → Q x) → (r : Option T) → IsSomeAnd r P → IsSomeAnd r Q
-weaker P Q f None h = h
-weaker P Q f (Some x) h = f x h
+use Rattle.irr_top.proofs.WaveForms.{component-is, part, parts_at_comma, parts_at_second, wave_text-parts, same_components, text_of_parts, within_of_parts}
 
 -- the commas
 
@@ -50,16 +44,6 @@ three_parts k word s t u v h before found before' found' e =
     (one.0, two.0, two.1)
 
 -- machine numbers
-
-pub kept_within : (a : ℤ) → unsigned_abs a ≤ 100000 → to_z w64 (of_z w64 a) ≡ a
-kept_within a h = to_z-of_z w64 a (fits_signed_from_abs w64 a (omega arith))
-
-pub lowest_over_one : (a : ℤ) → IsLowest a 1
-lowest_over_one a = record { positive = omega arith; lowest = λ d v w. Nat.dvd_antisymm v (Nat.one-dvd d) }
-
--- a fraction in lowest terms has the greatest common divisor 1
-pub gcd-one : (a : ℤ) (b u g : ℕ) → IsLowest a b → u ≡ unsigned_abs a → IsGcd u b g → g ≡ 1
-gcd-one a b u g low e h = same_from_IsGcd (unsigned_abs a) b g 1 (subst (λ n. IsGcd n b g) e h) (gcd_of_lowest a b low)
 
 pub common_gcd : (num : List ℤ) (b u v w d e g : ℕ) → FitsSigned w64 (get_or num 0 (pos 0)) → FitsSigned w64 (get_or num 1 (pos 0)) → FitsSigned w64 (get_or num 2 (pos 0))
     → u ≡ unsigned_abs (to_z w64 (of_z w64 (get_or num 0 (pos 0)))) → v ≡ unsigned_abs (to_z w64 (of_z w64 (get_or num 1 (pos 0)))) → w ≡ unsigned_abs (to_z w64 (of_z w64 (get_or num 2 (pos 0))))

@@ -14,21 +14,11 @@ ghost use Rattle.irr_rat.specs.Lowest.{AreThreeLowest};
 ghost use Rattle.irr_kvec.specs.WaveMeaning.{wave_vector};
 ghost use Rattle.irr_top.specs.Command.{wave_limit};
 
-use irr_digits::{printed_integer, printed_number};
 use irr_kvec::Wave;
-use irr_rat::gcd;
+use irr_rat::{PrintedFraction, gcd, printed_fraction, split_around};
 
 // The limit on a number of a wave vector, and on the common denominator of its components.
 const LIMIT: u32 = 100_000;
-
-// A fraction in lowest terms, with numbers within the limit.
-#[derive(Clone, Copy)]
-struct PrintedFraction {
-    num: i64,
-    den: u32,
-    ghost lowest: { IsLowest num den },
-    ghost within: { (unsigned_abs num ≤ wave_limit) × (den ≤ wave_limit) },
-}
 
 // The wave vector whose printed form `word` is, where there is one within the limits on its numbers.
 pub(crate) fn printed_wave(word: &[u8]) -> Option<Wave>
@@ -42,55 +32,6 @@ pub(crate) fn printed_wave(word: &[u8]) -> Option<Wave>
         printed_fraction(second)?,
         printed_fraction(third)?,
     )
-}
-
-// The bytes before and behind the first `byte` of `text`.
-fn split_around(text: &[u8], byte: u8) -> Option<(&[u8], &[u8])>
-    ensures found { IfSome result (λ parts. text.now ≡ parts.0.now ++ byte ∷ parts.1.now) }
-    ensures before { IfSome result (λ parts. All (λ b. b ≢ byte) parts.0.now) }
-    ensures none { IsNone result → All (λ b. b ≢ byte) text.now }
-{
-    let at = text.iter().position(|b| *b == byte)?;
-    Some((&text[..at], &text[at + 1..]))
-}
-
-// The fraction whose printed form `text` is, where there is one with numbers within the limit.
-fn printed_fraction(text: &[u8]) -> Option<PrintedFraction>
-    ensures found { IfSome result (λ x. text.now ≡ fraction_text x.num x.den) }
-    ensures only { (a : ℤ) (b : ℕ) → IsLowest a b → unsigned_abs a ≤ wave_limit → b ≤ wave_limit → text.now ≡ fraction_text a b
-        → IsSomeAnd result (λ x. (x.num ≡ a) × (x.den ≡ b)) }
-{
-    match split_around(text, b'/') {
-        None => whole_fraction(text),
-        Some((numerator, denominator)) => quotient_fraction(numerator, denominator),
-    }
-}
-
-// The fraction over 1 of the whole number whose printed form `text` is.
-fn whole_fraction(text: &[u8]) -> Option<PrintedFraction>
-    ensures found { IfSome result (λ x. (x.den ≡ 1) × (text.now ≡ signed_decimal x.num)) }
-    ensures only { (a : ℤ) → unsigned_abs a ≤ wave_limit → text.now ≡ signed_decimal a
-        → IsSomeAnd result (λ x. (x.num ≡ a) × (x.den ≡ 1)) }
-{
-    let num = printed_integer(text, LIMIT)?;
-    Some(PrintedFraction { num, den: 1 })
-}
-
-// The fraction in lowest terms, and not over 1, of the two numbers with these printed forms.
-fn quotient_fraction(numerator: &[u8], denominator: &[u8]) -> Option<PrintedFraction>
-    ensures found { IfSome result (λ x. (x.den ≢ 1) × (numerator.now ≡ signed_decimal x.num) × (denominator.now ≡ decimal x.den)) }
-    ensures only { (a : ℤ) (b : ℕ) → IsLowest a b → unsigned_abs a ≤ wave_limit → b ≤ wave_limit → b ≢ 1
-        → numerator.now ≡ signed_decimal a → denominator.now ≡ decimal b → IsSomeAnd result (λ x. (x.num ≡ a) × (x.den ≡ b)) }
-{
-    let num = printed_integer(numerator, LIMIT)?;
-    let den = printed_number(denominator, u64::from(LIMIT))?;
-    if den < 2 || gcd(num.unsigned_abs(), den) != 1 {
-        return None;
-    }
-    Some(PrintedFraction {
-        num,
-        den: den as u32,
-    })
 }
 
 // The wave vector of three components, where its common denominator is within the limit.

@@ -1,1 +1,3 @@
 pub mod TermTexts
+pub mod TermShapes
+pub mod TermReading

@@ -1,2 +1,4 @@
 pub mod Letters
 pub mod Terms
+pub mod Shapes
+pub mod Readable

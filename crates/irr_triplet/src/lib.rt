@@ -3,6 +3,7 @@
 
 mod component;
 mod print;
+mod read;
 mod term;
 
 pub use print::print_triplet;

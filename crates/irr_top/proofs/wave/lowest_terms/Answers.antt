@@ -1,8 +1,8 @@
-use Rattle.std.proofs.Common.{◌≡◌, ◌∙◌, ap, ap₂, ℕ, ℤ, ◌<◌, pos, FitsSigned, get_or, rules, to_z, of_z, w64, arith}
+use Rattle.std.proofs.Common.{◌≡◌, ◌∙◌, ap, ℕ, ℤ, pos, FitsSigned, rules, to_z, of_z, w64, arith}
 use Rattle.std.specs.Int.RustNames.{int_div}
 use Rattle.std.proofs.lemmas.Int.{to_z-of_z}
 use Rattle.irr_rational.specs.Ratio.{entry}
-use Rattle.irr_top.proofs.CommonTerms.{IsCommonGcd, common_gcd-pos, three_lowest}
+use Rattle.irr_top.proofs.CommonTerms.{common_gcd-pos, three_lowest}
 use Rattle.irr_top.proofs.WaveReading.{common_gcd}
 use Rattle.irr_top.proofs.wave.lowest_terms.Goals as goal
 

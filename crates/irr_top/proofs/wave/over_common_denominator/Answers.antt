@@ -1,7 +1,8 @@
-use Rattle.std.proofs.Common.{◌∙◌, ap, ap₂, w64, pos, ◌*ℤ◌, ◌*◌, subst, ◌<◌, ◌≡◌, arith}
+use Rattle.std.proofs.Common.{◌∙◌, ap, ap₂, w64, pos, ◌*ℤ◌, ◌*◌, ◌≡◌, arith}
 use Rattle.std.proofs.lemmas.Int.{to_z-of_z}
 use Rattle.irr_rational.specs.Rational.{ratio}
-use Rattle.irr_top.proofs.WaveReading.{kept_within, common_components, common_unique}
+use Rattle.irr_rat.proofs.PrintedFractions.{kept_within}
+use Rattle.irr_top.proofs.WaveReading.{common_components, common_unique}
 use Rattle.irr_top.proofs.wave.over_common_denominator.Goals as goal
 
 pub returns-clause-components : goal.returns-clause-components

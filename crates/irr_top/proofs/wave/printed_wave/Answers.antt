@@ -1,7 +1,7 @@
-use Rattle.std.proofs.Common.{◌∙◌, sym, refl, ap₂, ℕ, List, ◌++◌, ◌∷◌}
+use Rattle.std.proofs.Common.{◌∙◌, refl, ap₂, ℕ, List, ◌++◌, ◌∷◌}
 use Rattle.irr_algebra.specs.Fin.Fin.{first, next}
 use Rattle.irr_rational.specs.Rational.{ratio}
-use Rattle.irr_top.proofs.WaveForms.{PartForm, part_form}
+use Rattle.irr_top.proofs.WaveForms.{part_form}
 use Rattle.irr_top.proofs.WaveReading.{no_first, no_second, three_parts, only_of_common, found_of_common}
 use Rattle.irr_top.proofs.wave.printed_wave.Goals as goal
 

@@ -1,4 +1,4 @@
-use Rattle.std.proofs.Common.{◌≡◌, ◌∙◌, ap, ap₂, ℤ, pos, FitsSigned, to_z, of_z, w64, arith}
+use Rattle.std.proofs.Common.{◌∙◌, ap, ap₂, pos, to_z, of_z, w64, arith}
 use Rattle.std.specs.Int.RustNames.{int_div}
 use Rattle.std.proofs.lemmas.Int.{ints, to_z-of_z, to_z_pos, quot_fits}
 use Rattle.irr_top.proofs.wave.quotient.Goals as goal

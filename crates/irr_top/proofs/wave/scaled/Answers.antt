@@ -1,6 +1,5 @@
-use Rattle.std.proofs.Common.{◌≡◌, ◌∙◌, sym, ap, ap₂, subst, ℕ, ℤ, pos, ◌*ℤ◌, ◌*◌, ◌≤◌, FitsSigned, to_z, of_z, w64, rules, arith}
-use Rattle.std.proofs.lemmas.Int.{to_z-of_z, fits_signed_from_abs}
-use Rattle.std.specs.Int.RustNames.{unsigned_abs}
+use Rattle.std.proofs.Common.{◌≡◌, ◌∙◌, sym, ap, ap₂, subst, ℕ, ℤ, pos, ◌*ℤ◌, ◌*◌, ◌≤◌, FitsSigned, to_z, of_z, w64, arith}
+use Rattle.std.proofs.lemmas.Int.{to_z-of_z}
 use Rattle.irr_number.specs.Integers.{integers}
 use Rattle.irr_top.proofs.CommonTerms.{scaled_fits, dens_below}
 use Rattle.irr_top.proofs.wave.scaled.Goals as goal

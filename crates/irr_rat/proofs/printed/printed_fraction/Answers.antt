@@ -1,7 +1,7 @@
 use Rattle.std.proofs.Common.{◌∙◌, sym, refl, arith}
-use Rattle.irr_top.proofs.FractionTexts.{fraction_at_no_slash, fraction_at_slash}
-use Rattle.irr_top.proofs.WaveReading.{weaker}
-use Rattle.irr_top.proofs.wave.printed_fraction.Goals as goal
+use Rattle.irr_rat.proofs.FractionTexts.{fraction_at_no_slash, fraction_at_slash}
+use Rattle.irr_rat.proofs.PrintedFractions.{weaker}
+use Rattle.irr_rat.proofs.printed.printed_fraction.Goals as goal
 
 pub returns-in-None-clause-only : goal.returns-in-None-clause-only
 returns-in-None-clause-only c = λ a b low ha hb e.

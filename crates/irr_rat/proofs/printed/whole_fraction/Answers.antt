@@ -1,7 +1,7 @@
 use Rattle.std.proofs.Common.{sym, subst, ◌≤◌, arith}
 use Rattle.std.specs.Int.RustNames.{unsigned_abs}
-use Rattle.irr_top.proofs.WaveReading.{kept_within, lowest_over_one}
-use Rattle.irr_top.proofs.wave.whole_fraction.Goals as goal
+use Rattle.irr_rat.proofs.PrintedFractions.{kept_within, lowest_over_one}
+use Rattle.irr_rat.proofs.printed.whole_fraction.Goals as goal
 
 pub invariant_of-result : goal.invariant_of-result
 invariant_of-result c = record {

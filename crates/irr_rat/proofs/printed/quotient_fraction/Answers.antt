@@ -3,9 +3,9 @@ use Rattle.std.specs.Int.{IsGcd}
 use Rattle.std.specs.Int.RustNames.{unsigned_abs}
 use Rattle.irr_rational.specs.Ratio.{IsLowest}
 use Rattle.irr_rational.proofs.LowestTerms.{lowest_of_gcd}
-use Rattle.irr_top.proofs.WaveReading.{kept_within, gcd-one}
-use Rattle.irr_top.proofs.wave.quotient_fraction.Goals.{then-den-lt2-via-then-den-lt2, then-den-lt2-via-else-den-lt2+then-gcd-ne1}
-use Rattle.irr_top.proofs.wave.quotient_fraction.Goals as goal
+use Rattle.irr_rat.proofs.PrintedFractions.{kept_within, gcd-one}
+use Rattle.irr_rat.proofs.printed.quotient_fraction.Goals.{then-den-lt2-via-then-den-lt2, then-den-lt2-via-else-den-lt2+then-gcd-ne1}
+use Rattle.irr_rat.proofs.printed.quotient_fraction.Goals as goal
 
 pub invariant_of-result : goal.invariant_of-result
 invariant_of-result c =

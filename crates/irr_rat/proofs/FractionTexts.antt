@@ -5,7 +5,7 @@
 --   fraction_text_lack      nor has that of a fraction, but the slash
 --   fraction_text-one, fraction_text-over     the two forms of a fraction's text
 --   fraction_unique         a text is that of one fraction at most
-use Rattle.std.proofs.Common.{◌≡◌, ◌≢◌, refl, sym, ◌∙◌, ap, subst, ℕ, zero, suc, ◌<◌, ◌≤◌, ◌^◌, ℤ, pos, negsuc, List, [], ◌∷◌, ◌++◌, nat_eq, true, false, Bool, ◌⊎◌, inl, inr, arith, append-nil, lit≤}
+use Rattle.std.proofs.Common.{◌≡◌, ◌≢◌, refl, sym, ◌∙◌, ap, subst, ℕ, zero, suc, ◌<◌, ◌≤◌, ◌^◌, ℤ, pos, negsuc, List, [], ◌∷◌, ◌++◌, nat_eq, false, arith, append-nil, lit≤}
 use Rattle.std.specs.Prelude.{if◌then◌else◌}
 use Rattle.std.proofs.lemmas.Bool.Decides.{nat_tests}
 use Rattle.std.specs.List.{All}
