@@ -12,3 +12,4 @@ pub mod Seeds
 pub mod Multiples
 pub mod Rotating
 pub mod Bareness
+pub mod Unimodular

@@ -4,9 +4,9 @@ ghost use Rattle.std.specs.List.{All};
 ghost use Rattle.irr_space.specs.Operation.{Operation};
 ghost use Rattle.irr_space.specs.SpaceGroup.{Generated};
 ghost use Rattle.irr_seitz.specs.OperationMeaning.{operation, AreWithin};
+ghost use Rattle.irr_seitz.specs.Rotation.{determinant};
 ghost use Rattle.irr_close.specs.Limits.{operations};
 ghost use Rattle.irr_close.specs.Closing.{IsGenerator};
-ghost use Rattle.irr_close.specs.Centring.{AreInvertible};
 ghost use Rattle.irr_close.specs.Bare.{AreBare};
 ghost use Rattle.irr_close.specs.StandsFor.{stands_for, IsAccepted, IsRefusal};
 
@@ -65,7 +65,7 @@ fn without_vectors(alloc: Global, ops: &[Op]) -> Result<Vec<Op>, CloseError>
 /// and Cracknell, section 1.5).
 pub fn close(alloc: Global, generators: &[Op], phase: Phase) -> Result<Group, CloseError>
     requires generators { All IsGenerator generators.now }
-    requires invertible { AreInvertible generators.now }
+    requires unimodular { All (λ s. unsigned_abs (determinant (operation s).rotation) ≡ 1) generators.now }
     ensures group { IfOk result (λ group. (g : Operation) → stands_for group g ↔ Generated (operations generators.now) g) }
     ensures phase { IfOk result (λ group. group.phase ≡ phase) }
     ensures accepted { IfOk result (λ _. IsAccepted generators.now) }
@@ -85,3 +85,6 @@ pub fn close(alloc: Global, generators: &[Op], phase: Phase) -> Result<Group, Cl
         phase,
     })
 }
+
+#[cfg(test)]
+mod tests;

@@ -8,7 +8,11 @@ use Rattle.irr_close.specs.Bare.{AreBare}
 use Rattle.irr_close.specs.StandsFor.{stands_for, IsRefusal}
 use Rattle.irr_close.proofs.Rotating.{seeds_numbers, seeds_small, kept_all, kept_generators, kept_products}
 use Rattle.irr_close.proofs.Bareness.{bare_numbers, bare_small, bare_refused, bare_few, seeds_refusal, centrings_refusal, group_stands, accepted}
+use Rattle.irr_close.proofs.Unimodular.{are_invertible}
 use Rattle.irr_close.proofs.group.close.Goals as goal
+
+pub close_centrings-requires-clause-invertible : goal.close_centrings-requires-clause-invertible
+close_centrings-requires-clause-invertible c = are_invertible c.args.generators.now c.requires.unimodular
 
 pub close_rotations-requires-clause-generators : goal.close_rotations-requires-clause-generators
 close_rotations-requires-clause-generators c = bare_numbers c.deref.result.now c.deref-then-not-have_small_denominator.result.now (subst (λ xs. AreBare c.deref.result.now xs (length c.deref.result.now)) (sym c.deref-then-not-have_small_denominator.ensures.value) c.in_ok-bare.ensures.bare) (seeds_numbers c.args.generators.now c.deref.result.now (subst (λ xs. AreSeeds c.args.generators.now xs (length c.args.generators.now)) (sym c.deref.ensures.value) c.in_ok-seeds.ensures.seeds).from_list c.requires.generators)
@@ -23,7 +27,7 @@ returns-in_err-_ops-clause-refused c =
 
 pub returns-then-not-have_small_denominator-clause-refused : goal.returns-then-not-have_small_denominator-clause-refused
 returns-then-not-have_small_denominator-clause-refused c = (
-  bare_few c.args.generators.now c.deref.result.now c.deref-then-not-have_small_denominator.result.now c.in_ok-_ops._ops.items c.requires.invertible (subst (λ xs. AreSeeds c.args.generators.now xs (length c.args.generators.now)) (sym c.deref.ensures.value) c.in_ok-seeds.ensures.seeds) (subst (λ xs. AreBare c.deref.result.now xs (length c.deref.result.now)) (sym c.deref-then-not-have_small_denominator.ensures.value) c.in_ok-bare.ensures.bare) c.in_ok-_ops.ensures.partial c.in_ok-_ops.ensures.products,
+  bare_few c.args.generators.now c.deref.result.now c.deref-then-not-have_small_denominator.result.now c.in_ok-_ops._ops.items (are_invertible c.args.generators.now c.requires.unimodular) (subst (λ xs. AreSeeds c.args.generators.now xs (length c.args.generators.now)) (sym c.deref.ensures.value) c.in_ok-seeds.ensures.seeds) (subst (λ xs. AreBare c.deref.result.now xs (length c.deref.result.now)) (sym c.deref-then-not-have_small_denominator.ensures.value) c.in_ok-bare.ensures.bare) c.in_ok-_ops.ensures.partial c.in_ok-_ops.ensures.products,
   λ h. let t : c.have_small_denominator.result ≡ true = c.have_small_denominator.ensures.1 h in absurd (cc),
 )
 
@@ -39,24 +43,24 @@ returns-in_err-ops-clause-refused c =
     search rules
 
 pub close_centrings-requires-clause-kept : goal.close_centrings-requires-clause-kept
-close_centrings-requires-clause-kept c = subst (All (IsKept c.args.generators.now)) (sym c.deref-3.ensures.value) (kept_all c.args.generators.now c.deref-2.result.now c.in_ok-ops.ops.items c.requires.invertible (subst (λ xs. AreSeeds c.args.generators.now xs (length c.args.generators.now)) (sym c.deref-2.ensures.value) c.in_ok-seeds.ensures.seeds) c.in_ok-ops.ensures.partial c.in_ok-ops.ensures.products)
+close_centrings-requires-clause-kept c = subst (All (IsKept c.args.generators.now)) (sym c.deref-3.ensures.value) (kept_all c.args.generators.now c.deref-2.result.now c.in_ok-ops.ops.items (are_invertible c.args.generators.now c.requires.unimodular) (subst (λ xs. AreSeeds c.args.generators.now xs (length c.args.generators.now)) (sym c.deref-2.ensures.value) c.in_ok-seeds.ensures.seeds) c.in_ok-ops.ensures.partial c.in_ok-ops.ensures.products)
 
 pub close_centrings-requires-clause-rotations : goal.close_centrings-requires-clause-rotations
-close_centrings-requires-clause-rotations c = subst (λ xs. HoldsAt (λ g. All (λ s. HasRotation xs ((operation g).rotation · (operation s).rotation)) c.args.generators.now) xs 0) (sym c.deref-3.ensures.value) (kept_generators c.args.generators.now c.deref-2.result.now c.in_ok-ops.ops.items c.requires.invertible (subst (λ xs. AreSeeds c.args.generators.now xs (length c.args.generators.now)) (sym c.deref-2.ensures.value) c.in_ok-seeds.ensures.seeds) c.in_ok-ops.ensures.partial c.in_ok-ops.ensures.products)
+close_centrings-requires-clause-rotations c = subst (λ xs. HoldsAt (λ g. All (λ s. HasRotation xs ((operation g).rotation · (operation s).rotation)) c.args.generators.now) xs 0) (sym c.deref-3.ensures.value) (kept_generators c.args.generators.now c.deref-2.result.now c.in_ok-ops.ops.items (are_invertible c.args.generators.now c.requires.unimodular) (subst (λ xs. AreSeeds c.args.generators.now xs (length c.args.generators.now)) (sym c.deref-2.ensures.value) c.in_ok-seeds.ensures.seeds) c.in_ok-ops.ensures.partial c.in_ok-ops.ensures.products)
 
 pub close_centrings-requires-clause-products : goal.close_centrings-requires-clause-products
-close_centrings-requires-clause-products c = subst (λ xs. All (λ g. All (λ h. HasRotation xs ((operation g).rotation · (operation h).rotation)) xs) xs) (sym c.deref-3.ensures.value) (kept_products c.args.generators.now c.deref-2.result.now c.in_ok-ops.ops.items c.requires.invertible (subst (λ xs. AreSeeds c.args.generators.now xs (length c.args.generators.now)) (sym c.deref-2.ensures.value) c.in_ok-seeds.ensures.seeds) c.in_ok-ops.ensures.partial c.in_ok-ops.ensures.products)
+close_centrings-requires-clause-products c = subst (λ xs. All (λ g. All (λ h. HasRotation xs ((operation g).rotation · (operation h).rotation)) xs) xs) (sym c.deref-3.ensures.value) (kept_products c.args.generators.now c.deref-2.result.now c.in_ok-ops.ops.items (are_invertible c.args.generators.now c.requires.unimodular) (subst (λ xs. AreSeeds c.args.generators.now xs (length c.args.generators.now)) (sym c.deref-2.ensures.value) c.in_ok-seeds.ensures.seeds) c.in_ok-ops.ensures.partial c.in_ok-ops.ensures.products)
 
 pub returns-in_err-centrings-clause-refused : goal.returns-in_err-centrings-clause-refused
 returns-in_err-centrings-clause-refused c =
-    let r : IsRefusal c.args.generators.now c.in_err-centrings.field-0.0 = centrings_refusal c.args.generators.now c.deref-2.result.now c.in_ok-ops.ops.items c.in_err-centrings.field-0.0 c.requires.invertible (subst (λ xs. AreSeeds c.args.generators.now xs (length c.args.generators.now)) (sym c.deref-2.ensures.value) c.in_ok-seeds.ensures.seeds) c.in_ok-ops.ensures.partial c.in_ok-ops.ensures.products (c.have_small_denominator.ensures.0 (let t : c.have_small_denominator.result ≡ true = c.if-not-have_small_denominator.false in t)) c.in_err-centrings.ensures.refused in
+    let r : IsRefusal c.args.generators.now c.in_err-centrings.field-0.0 = centrings_refusal c.args.generators.now c.deref-2.result.now c.in_ok-ops.ops.items c.in_err-centrings.field-0.0 (are_invertible c.args.generators.now c.requires.unimodular) (subst (λ xs. AreSeeds c.args.generators.now xs (length c.args.generators.now)) (sym c.deref-2.ensures.value) c.in_ok-seeds.ensures.seeds) c.in_ok-ops.ensures.partial c.in_ok-ops.ensures.products (c.have_small_denominator.ensures.0 (let t : c.have_small_denominator.result ≡ true = c.if-not-have_small_denominator.false in t)) c.in_err-centrings.ensures.refused in
     search rules
 
 pub returns-clause-group : goal.returns-clause-group
 unfolding stands_for
-returns-clause-group c = group_stands c.args.generators.now c.deref-2.result.now c.in_ok-ops.ops.items c.in_ok-centrings.centrings.items c.requires.invertible (subst (λ xs. AreSeeds c.args.generators.now xs (length c.args.generators.now)) (sym c.deref-2.ensures.value) c.in_ok-seeds.ensures.seeds) c.in_ok-ops.ensures.partial c.in_ok-ops.ensures.products c.in_ok-centrings.ensures.lattice
+returns-clause-group c = group_stands c.args.generators.now c.deref-2.result.now c.in_ok-ops.ops.items c.in_ok-centrings.centrings.items (are_invertible c.args.generators.now c.requires.unimodular) (subst (λ xs. AreSeeds c.args.generators.now xs (length c.args.generators.now)) (sym c.deref-2.ensures.value) c.in_ok-seeds.ensures.seeds) c.in_ok-ops.ensures.partial c.in_ok-ops.ensures.products c.in_ok-centrings.ensures.lattice
     (subst (λ xs. IsSettled c.args.generators.now xs c.in_ok-centrings.centrings.items (length c.in_ok-centrings.centrings.items)) c.deref-3.ensures.value c.in_ok-centrings.ensures.settled)
 
 pub returns-clause-accepted : goal.returns-clause-accepted
-returns-clause-accepted c = accepted c.args.generators.now c.deref-2.result.now c.in_ok-ops.ops.items c.in_ok-centrings.centrings.items c.requires.invertible (subst (λ xs. AreSeeds c.args.generators.now xs (length c.args.generators.now)) (sym c.deref-2.ensures.value) c.in_ok-seeds.ensures.seeds) c.in_ok-ops.ensures.partial c.in_ok-ops.ensures.products c.in_ok-centrings.ensures.lattice
+returns-clause-accepted c = accepted c.args.generators.now c.deref-2.result.now c.in_ok-ops.ops.items c.in_ok-centrings.centrings.items (are_invertible c.args.generators.now c.requires.unimodular) (subst (λ xs. AreSeeds c.args.generators.now xs (length c.args.generators.now)) (sym c.deref-2.ensures.value) c.in_ok-seeds.ensures.seeds) c.in_ok-ops.ensures.partial c.in_ok-ops.ensures.products c.in_ok-centrings.ensures.lattice
     (subst (λ xs. IsSettled c.args.generators.now xs c.in_ok-centrings.centrings.items (length c.in_ok-centrings.centrings.items)) c.deref-3.ensures.value c.in_ok-centrings.ensures.settled) (c.have_small_denominator.ensures.0 (let t : c.have_small_denominator.result ≡ true = c.if-not-have_small_denominator.false in t))
