@@ -1,10 +1,10 @@
--- Sizes for the trial of a projection with entries z^e over d.
+-- Sizes for the trial of a projection with entries z^e over d, and of sums and products of powers of z.
 use Rattle.std.proofs.Common.{◌≡◌, sym, ◌∙◌, subst, ℕ, ◌*◌, ◌<◌, ◌≤◌, List, arith}
 use native.Mathlib.Nat as Nat
-use Rattle.irr_algebra.specs.Matrix.{◌·◌, scale, unit}
+use Rattle.irr_algebra.specs.Matrix.{Matrix, ◌·◌, scale, unit}
 use Rattle.irr_number.specs.Number.{Number, numbers}
 use Rattle.irr_mat.specs.Entries.{matrix_of}
-use Rattle.irr_mat.specs.Size.{IsWithin, MultiplesFit, ProductFits, SumsFit, TraceFits}
+use Rattle.irr_mat.specs.Size.{IsWithin, MultiplesFit, ProductFits, ProductsFit, SumsFit, TraceFits}
 use Rattle.irr_canonical.specs.RootSum.{IsRootSum}
 use Rattle.irr_canonical.proofs.RootSums.{IsRootSum-zero}
 use Rattle.irr_mat.proofs.Bounds.{within-more, within-mul, within-scale, within-unit}
@@ -107,3 +107,36 @@ module _ {S : Type 0} (value : (n : ℕ) → S → Number n) (n : ℕ) (xs : Lis
         (subst (λ w. IsWithin n 1 1 (matrix_of value n w q ys)) rows
         (subst (IsWithin n 1 1) (sym (subst (λ w. matrix_of value w p q ys ≡ scale (numbers w) (value w x) (matrix_of value w p q xs)) order g))
         (within-more n p q 0 1 1 (scale (numbers n) (value n x) (matrix_of value n p q xs)) (omega arith) (within-scale n p q 0 1 1 1 (value n x) (matrix_of value n p q xs) factor (unit_at p q rows cols)))))))
+
+-- a matrix of powers of z, at the sizes and the order that a call names
+pub within_to : {S : Type 0} (value : (n : ℕ) → S → Number n) (n k s d : ℕ) (xs : List S) → IsWithin n s d (matrix_of value n k k xs)
+    → (m r c : ℕ) → m ≡ n → r ≡ k → c ≡ k → IsWithin m s d (matrix_of value m r c xs)
+within_to value n k s d xs w m r c e f g =
+    subst (λ v. IsWithin v s d (matrix_of value v r c xs)) (sym e)
+    (subst (λ v. IsWithin n s d (matrix_of value n v c xs)) (sym f)
+    (subst (λ v. IsWithin n s d (matrix_of value n k v xs)) (sym g) w))
+
+-- powers of z can be multiplied, and sums of at most two can be compared
+pub powers_fit : (m : ℕ) {r c p q : ℕ} (a : Matrix (numbers m) r c) (b : Matrix (numbers m) p q) → m ≤ 12000 → IsWithin m 1 1 a → IsWithin m 1 1 b → ProductsFit m a b
+powers_fit m a b limited u v = record {
+  s = 1;
+  d = 1;
+  t = 1;
+  e = 1;
+  left = u;
+  right = v;
+  denominators = omega arith;
+  sizes = let l : m * m ≤ 144000000 = Nat.mul-le-mul limited limited in omega arith;
+}
+
+pub few_fit : (m s t : ℕ) {r c p q : ℕ} (a : Matrix (numbers m) r c) (b : Matrix (numbers m) p q) → m ≤ 12000 → s ≤ 2 → t ≤ 2 → IsWithin m s 1 a → IsWithin m t 1 b → SumsFit m a b
+few_fit m s t a b limited p q u v = record {
+  s = s;
+  d = 1;
+  t = t;
+  e = 1;
+  left = u;
+  right = v;
+  denominators = omega arith;
+  sizes = let k : s * m ≤ 2 * 12000 = Nat.mul-le-mul p limited in let l : t * m ≤ 2 * 12000 = Nat.mul-le-mul q limited in omega arith;
+}
