@@ -1,4 +1,4 @@
-//! Coordinate triplets: the printed form of an operation, written and read.
+//! Coordinate triplets: the printed form of an operation.
 #![tactic(auto)]
 
 mod component;
