@@ -7,5 +7,6 @@ pub mod UnitColumns
 pub mod Members
 pub mod Restrictions
 pub mod Subtables
+pub mod Families
 pub mod Listed
 pub mod Trials

@@ -1,3 +1,4 @@
+pub mod Family
 pub mod Table
 pub mod TableLaws
 pub mod Subgroup

@@ -3,11 +3,13 @@
 #![tactic(auto)]
 
 mod cycle;
+mod family;
 mod lists;
 mod subgroup;
 mod table;
 
 pub use cycle::cycles_of_places;
+pub use family::{Defect, Family, representations_at_own_order};
 pub use lists::lists_of_tables;
 pub use subgroup::restrictions_are_subtables;
 pub use table::{PLACES_LIMIT, Twisted};
