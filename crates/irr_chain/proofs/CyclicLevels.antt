@@ -1,4 +1,5 @@
 -- The quotient of a level is cyclic: the powers of its generator are representatives of the cosets.
+--   cover-prime              each element of H is in the coset of a power of one outside K
 --   level_quotient           it is commutative, of exponent p
 --   level_covered            each element is in the coset of a power below the p-th
 --   level_one_power          of one only
@@ -34,7 +35,7 @@ module _ {h : ℕ} (T : PhaseTable h) (K H : Fin h → Type 0) (closed : IsClose
     | inr s ↦ (2, omega arith, subst (λ v. IsCoset T K v i) (let e : T.product g g ≡ power T g 2 = simp (group_laws, T) in e) s)
   ]
 
-  cover-prime : (p : ℕ) → (p ≡ 2) ⊎ (p ≡ 3) → HasIndex T K H p → (i : Fin h) → H i → Cover T K p g i
+  pub cover-prime : (p : ℕ) → (p ≡ 2) ⊎ (p ≡ 3) → HasIndex T K H p → (i : Fin h) → H i → Cover T K p g i
   cover-prime p (inl e) index i a = subst (λ n. Cover T K n g i) (sym e) (cover-two (subst (HasIndex T K H) e index) i a)
   cover-prime p (inr e) index i a = subst (λ n. Cover T K n g i) (sym e) (cover-three (subst (HasIndex T K H) e index) i a)
 
