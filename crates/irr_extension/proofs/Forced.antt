@@ -1,7 +1,9 @@
 -- What the traces of an extension at the coset of the generator are.
 --   some_trace_of_extension: they are not all 0
 --   traces_forced: their products with the powers of one of them tell them up to a root of 1
-use Rattle.std.proofs.Common.{◌≡◌, sym, ◌∙◌, ap, refl, ℕ, zero, suc, ◌<◌}
+--   forced_by_two, forced_by_three: the sums of the character of the subgroup do
+use Rattle.std.proofs.Common.{◌≡◌, sym, ◌∙◌, ap, ap₂, refl, ℕ, zero, suc, ◌<◌}
+use Rattle.irr_algebra.specs.Ring.{whole}
 use Rattle.irr_algebra.specs.Field.{Field}
 use Rattle.irr_algebra.specs.Fin.{Fin}
 use Rattle.irr_algebra.specs.Matrix.{Matrix, ◌·◌, scale, trace}
@@ -10,12 +12,15 @@ use Rattle.irr_algebra.proofs.Rings.{mul-zero, mul_left_comm, zero-mul}
 use Rattle.irr_algebra.proofs.Fields.{inverse-mul, mul-ne-zero, mul_cancel, one-ne-zero}
 use Rattle.irr_algebra.proofs.Matrices.{scale-mul, trace-scale}
 use Rattle.irr_theory.specs.FactorSystem.{FactorSystem, Representation}
+use Rattle.irr_theory.proofs.Inverses.{places-ne-zero}
 use Rattle.irr_clifford.specs.Subgroup.{Subgroup}
 use Rattle.irr_clifford.specs.Cyclic.{CyclicQuotient, StandsForGenerator}
 use Rattle.irr_clifford.specs.FromTraces.{AreExtensionTraces, generator_from_traces}
 use Rattle.irr_clifford.specs.Roots.{number_power}
 use Rattle.irr_clifford.proofs.ExtensionTraces.{extension_of_traces, stands_of_traces, traces_of_stands}
 use Rattle.irr_clifford.proofs.Roots.{extension-coset, number_power-mul, number_power-one, some_trace, stands-ne-null, stands_times_root}
+use Rattle.irr_extension.specs.Product.{three_sum, two_sum}
+use Rattle.irr_extension.proofs.CosetProducts.{product_of_three, product_of_two}
 
 module _ (F : Field) {T : FactorSystem F.ring} {H : Subgroup T} (Q : CyclicQuotient H) {d : ℕ} (D : Representation H.table d) (l : 0 < d) (simple : IsSimple D.at)
     (t : Fin H.table.places → F.Carrier) (extension : AreExtensionTraces Q D t) where
@@ -86,3 +91,37 @@ module _ (F : Field) {T : FactorSystem F.ring} {H : Subgroup T} (Q : CyclicQuoti
     traces_forced = traces_of_stands Q D (scale R root u) (stands_times_root Q D u root stands root-power) s (λ n.
         ap (R.mul (T.phase Q.generator (H.member n))) (sym (root-times n)) ∙ mul_left_comm R (T.phase Q.generator (H.member n)) root (t n)
         ∙ ap (R.mul root) (trace-member n) ∙ sym (ap trace (scale-mul R root u (D.at n)) ∙ trace-scale R root (u · D.at n)))
+
+module _ (F : Field) {T : FactorSystem F.ring} {H : Subgroup T} (Q : CyclicQuotient H) {d : ℕ} (D : Representation H.table d) (l : 0 < d) (simple : IsSimple D.at)
+    (s t : Fin H.table.places → F.Carrier) (extension : AreExtensionTraces Q D t)
+    (position : Fin T.places → Fin H.table.places) (at_member : (n : Fin H.table.places) → position (H.member n) ≡ n)
+    (m : Fin H.table.places) (s-ne : s m ≡ F.zero → ⊥) where
+  open F use {ring as R}
+
+  at-coset : (n : Fin H.table.places) → trace (extension.family.at (T.product Q.generator (H.member n))) ≡ t n
+  at-coset n = extension.trace-coset n
+
+  pub forced_by_two : Q.index ≡ 2
+      → ((n : Fin H.table.places) → R.mul (whole R H.table.places) (R.mul (s n) (s m))
+      ≡ R.mul (whole R d) (two_sum H (λ k. trace (D.at k)) position (T.product Q.generator (H.member n)) (T.product Q.generator (H.member m))))
+      → AreExtensionTraces Q D s
+  unfolding number_power
+  forced_by_two two same = traces_forced F Q D l simple t extension s m s-ne 1 two (λ n.
+      ap (R.mul (s n)) (R.mul-one (s m))
+      ∙ mul_cancel F (whole R H.table.places) (R.mul (s n) (s m)) (R.mul (t n) (t m)) (places-ne-zero F H.table)
+      (same n ∙ sym (product_of_two F Q D extension.family l simple extension.at-member position at_member two n m)
+      ∙ ap₂ (λ a b. R.mul (whole R H.table.places) (R.mul a b)) (at-coset n) (at-coset m))
+      ∙ sym (ap (R.mul (t n)) (R.mul-one (t m))))
+
+  pub forced_by_three : Q.index ≡ 3
+      → ((n : Fin H.table.places) → R.mul (R.mul (whole R H.table.places) (whole R H.table.places)) (R.mul (s n) (R.mul (s m) (s m)))
+      ≡ R.mul (R.mul (whole R d) (whole R d)) (three_sum H (λ k. trace (D.at k)) position (T.product Q.generator (H.member n)) (T.product Q.generator (H.member m))))
+      → AreExtensionTraces Q D s
+  unfolding number_power
+  forced_by_three three same = traces_forced F Q D l simple t extension s m s-ne 2 three (λ n.
+      ap (λ a. R.mul (s n) (R.mul (s m) a)) (R.mul-one (s m))
+      ∙ mul_cancel F (R.mul (whole R H.table.places) (whole R H.table.places)) (R.mul (s n) (R.mul (s m) (s m))) (R.mul (t n) (R.mul (t m) (t m)))
+      (mul-ne-zero F (whole R H.table.places) (whole R H.table.places) (places-ne-zero F H.table) (places-ne-zero F H.table))
+      (same n ∙ sym (product_of_three F Q D extension.family l simple extension.at-member position at_member three n m)
+      ∙ ap₂ (λ a b. R.mul (R.mul (whole R H.table.places) (whole R H.table.places)) (R.mul a (R.mul b b))) (at-coset n) (at-coset m))
+      ∙ sym (ap (λ a. R.mul (t n) (R.mul (t m) a)) (R.mul-one (t m))))

@@ -3,5 +3,7 @@ pub mod Presence
 pub mod ExponentLists
 pub mod ExponentSums
 pub mod Products
+pub mod Cosets
 pub mod CosetProducts
 pub mod Forced
+pub mod CosetSums

@@ -2,6 +2,7 @@
 --   lifted-sandwich: the matrix at x n y n^-1
 --   product_of_traces: h tr E(x) tr E(y) is d times the sum of tr E(x n y n^-1)
 use Rattle.std.proofs.Common.{◌≡◌, sym, ◌∙◌, ap, ap₂, refl, ℕ, ◌<◌}
+use mathlib.Core.Path.{fun_ext}
 use Rattle.irr_algebra.specs.Ring.{Ring, whole}
 use Rattle.irr_algebra.specs.Field.{Field}
 use Rattle.irr_algebra.specs.Fin.{Fin}
@@ -74,3 +75,13 @@ module _ (F : Field) {T : FactorSystem F.ring} (H : Subgroup T) {d : ℕ} (D : R
       ∙ ap (R.mul (whole R d)) (sym (sandwich-total (lifted E x) (lifted E y))
       ∙ sum-ext R H.table.places (λ n. trace (lifted E x · (D.at n · lifted E y · back D n))) (λ n. trace (lifted E (sandwich T x (H.member n) y))) (λ n.
       ap trace (ap₂ (λ (a b : Matrix R d d). lifted E x · (a · lifted E y · b)) (sym (extends n)) (sym (back-member n)) ∙ sym (lifted-sandwich E x (H.member n) y))))
+
+  pub product_at_places : (x y : Fin T.places) → R.mul (whole R H.table.places) (R.mul (trace (E.at x)) (trace (E.at y)))
+      ≡ R.mul (whole R d) (sum R H.table.places (λ n. R.mul
+      (sandwich T (at_place T x) (H.member n) (at_place T y)).number (trace (E.at (sandwich T (at_place T x) (H.member n) (at_place T y)).place))))
+  unfolding lifted
+  product_at_places x y =
+      ap₂ (λ a b. R.mul (whole R H.table.places) (R.mul (trace a) (trace b))) (sym (lifted-bare E x)) (sym (lifted-bare E y))
+      ∙ product_of_traces (at_place T x) (at_place T y)
+      ∙ ap (R.mul (whole R d)) (ap (sum R H.table.places) (fun_ext (λ n.
+      trace-scale R (sandwich T (at_place T x) (H.member n) (at_place T y)).number (E.at (sandwich T (at_place T x) (H.member n) (at_place T y)).place))))
