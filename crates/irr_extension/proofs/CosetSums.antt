@@ -1,11 +1,12 @@
 -- The trace of an extension at a place of the coset of the generator as a sum of roots, from the family on the subgroup.
 --   coset_top: the member at which the power of the place by the index stands
 --   coset_sum: the sum of roots by exponents
+--   coset_character_sum: by exponents that the character of the family on the subgroup tells
 use Rattle.std.proofs.Common.{◌≡◌, sym, ap, subst, ℕ, ◌<◌, ◌*◌, ◌/◌, List, All}
-use Rattle.irr_algebra.specs.Ring.{Ring}
+use Rattle.irr_algebra.specs.Ring.{Ring, whole}
 use Rattle.irr_algebra.specs.Field.{Field}
 use Rattle.irr_algebra.specs.Fin.{Fin}
-use Rattle.irr_algebra.specs.Matrix.{scale}
+use Rattle.irr_algebra.specs.Matrix.{scale, trace}
 use Rattle.irr_theory.specs.FactorSystem.{FactorSystem, Representation}
 use Rattle.irr_theory.specs.Lifted.{lifted}
 use Rattle.irr_eigen.specs.Power.{power}
@@ -17,8 +18,10 @@ use Rattle.irr_clifford.specs.FromTraces.{AreExtensionTraces}
 use Rattle.irr_clifford.proofs.Split.{index-positive}
 use Rattle.irr_extension.specs.Coset.{subtable_of}
 use Rattle.irr_extension.specs.Exponents.{AddsUpRoots, times_in}
+use Rattle.irr_extension.specs.Occurrence.{occurrence_sum, power_at}
 use Rattle.irr_extension.proofs.Cosets.{coset-generator, coset-outside, coset-power, coset-whole}
 use Rattle.irr_extension.proofs.ExponentSums.{exponent_sum_of_roots}
+use Rattle.irr_extension.proofs.PlaceCharacters.{place_character_sum}
 
 pub coset_top : {R : Ring} {T : FactorSystem R} {H : Subgroup T} (Q : CyclicQuotient H) (k : Fin H.table.places)
     → (top : Fin H.table.places) × (H.member top ≡ (lifted_power (at_place T (T.product Q.generator (H.member k))) Q.index).place)
@@ -47,3 +50,18 @@ coset_sum F {T} {H} Q {d} D t extension k top in-s order z exponent n q y has n-
     (exponent_sum_of_roots F (subtable_of H) extension.family x Q.index top (index-positive Q) in-s (coset-outside Q x (coset-generator Q k))
     order z exponent n q y has n-pos q-pos n-order back sum es below
     (λ a l. subst (λ v. Occurs v (power F.ring z a) (times_in a es)) (sym (extension-top H D extension.family extension.at-member x Q.index top)) (occurs a l)))
+
+pub coset_character_sum : (F : Field) {T : FactorSystem F.ring} {H : Subgroup T} (Q : CyclicQuotient H) {d : ℕ} (D : Representation H.table d)
+    (t : Fin H.table.places → F.Carrier) → AreExtensionTraces Q D t
+    → (k top : Fin H.table.places) → H.member top ≡ (lifted_power (at_place T (T.product Q.generator (H.member k))) Q.index).place
+    → (order : ℕ) (z : F.Carrier) (exponent : Fin T.places → Fin T.places → ℕ) (n q y : ℕ) → HasExponents T order z exponent → 0 < n → 0 < q → order ≡ n * q
+    → (lifted_power (at_place T (T.product Q.generator (H.member k))) n).place ≡ T.start → exponent_sum T exponent (T.product Q.generator (H.member k)) n ≡ n * y
+    → (es : List ℕ) → All (λ e. (e < order) × (e / Q.index * Q.index ≡ e)) es
+    → ((i : ℕ) → i < order / Q.index → F.mul (whole F.ring (order / Q.index)) (whole F.ring (times_in (i * Q.index) es))
+    ≡ occurrence_sum H.table (λ l. trace (D.at l)) (power_at T (T.product Q.generator (H.member k)) Q.index top) z Q.index (order / Q.index) i)
+    → AddsUpRoots F.ring z Q.index (order / Q.index) es (t k)
+coset_character_sum F {T} {H} Q {d} D t extension k top in-s order z exponent n q y has n-pos q-pos n-order back sum es below counts =
+    let x : Fin T.places = T.product Q.generator (H.member k) in
+    subst (λ s. AddsUpRoots F.ring z Q.index (order / Q.index) es s) (extension.trace-coset k)
+    (place_character_sum F (subtable_of H) D extension.family extension.at-member x Q.index top (index-positive Q) in-s (coset-outside Q x (coset-generator Q k))
+    order z exponent n q y has n-pos q-pos n-order back sum es below counts)

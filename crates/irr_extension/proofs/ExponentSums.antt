@@ -51,10 +51,10 @@ shift_by_rest b j m p =
     omega (arith, split, both, rest)
 
 -- the order by the index of the cycle
-order_split : (order n q m p : ℕ) → order ≡ n * q → n ≡ suc m * p → order ≡ suc m * q * p
+pub order_split : (order n q m p : ℕ) → order ≡ n * q → n ≡ suc m * p → order ≡ suc m * q * p
 order_split order n q m p e f = e ∙ ap (λ a. a * q) f ∙ Nat.mul_assoc (suc m) p q ∙ ap (λ a. suc m * a) (Nat.mul_comm p q) ∙ sym (Nat.mul_assoc (suc m) q p)
 
-positive-product : (m q : ℕ) → 0 < q → 0 < suc m * q
+pub positive-product : (m q : ℕ) → 0 < q → 0 < suc m * q
 positive-product m q h = let e = Nat.suc-mul m q in omega (arith, e, h)
 
 -- powers of z
@@ -71,7 +71,7 @@ primitive_inj_below F order z primitive a b la lb e =
     ∙ to_nat-from_nat order b lb
 
 -- a sum over indices as one over their exponents
-sum_by_exponents : (R : Ring) {k p : ℕ} (z : R.Carrier) (m : ℕ) (exponent : Fin k → ℕ) (root : Fin k → Fin p → R.Carrier)
+pub sum_by_exponents : (R : Ring) {k p : ℕ} (z : R.Carrier) (m : ℕ) (exponent : Fin k → ℕ) (root : Fin k → Fin p → R.Carrier)
     → ((a : Fin k) → exponent a / p * p ≡ exponent a) → ((a : Fin k) (j : Fin p) → (i : Fin p) × (root a j ≡ power R z (exponent a / p + to_nat i * m)))
     → (l : List (Fin k)) (s : R.Carrier) → AddsUp R root l s → AddsUpRoots R z p m (exponents_of exponent l) s
 unfolding AddsUp AddsUpRoots exponents_of
@@ -85,7 +85,7 @@ module _ {R : Ring} {T : FactorSystem R} {x : Fin T.places} (cycle : Cycle T x) 
   abbrev pub exponent_at : Fin (suc m) → ℕ
   exponent_at a = (y + to_nat a * q) % (suc m * q) * p
 
-  exponent-value : (a : Fin (suc m)) → power R (cycle_numbers cycle (suc m) a) p ≡ power R z (exponent_at a)
+  pub exponent-value : (a : Fin (suc m)) → power R (cycle_numbers cycle (suc m) a) p ≡ power R z (exponent_at a)
   exponent-value a =
       ap (λ x. power R x p) (ap₂ R.mul number (ap (λ x. power R x (to_nat a)) root ∙ sym (power-mul R z (to_nat a) q)) ∙ sym (power-add R z y (to_nat a * q)))
       ∙ sym (power-mul R z p (y + to_nat a * q))
@@ -180,7 +180,7 @@ module _ (F : Field) where
               (a.0, primitive_inj_below F order z has.primitive (index_exponent a.0) e (exponent-below a.0) l (sym (value a.0) ∙ a.1))
 
       l : (l : List (Fin (suc m))) × (exponents_of index_exponent l ≡ es)
-      l = indices_of index_exponent order es (recursion_from_All (λ e. e < order) es below) found
+      l = indices_of index_exponent (λ e. e < order) es (recursion_from_All (λ e. e < order) es below) found
 
       occurs_at : (a : Fin (suc m)) → Occurs (top_matrix T (restricted part E) x p top) (power R (cycle_numbers cycle (suc m) a) p) (occurrences a l.0)
       occurs_at a =

@@ -7,3 +7,6 @@ pub mod Cosets
 pub mod CosetProducts
 pub mod Forced
 pub mod CosetSums
+pub mod UnitPowers
+pub mod CharacterSums
+pub mod PlaceCharacters

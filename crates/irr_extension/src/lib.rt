@@ -21,6 +21,7 @@ ghost use Rattle.irr_clifford.specs.Roots.{number_power};
 ghost use Rattle.irr_extension.specs.Coset.{subtable_of};
 ghost use Rattle.irr_extension.specs.Product.{sandwich, three_sum, two_sum};
 ghost use Rattle.irr_extension.specs.Exponents.{AddsUpRoots, times_in};
+ghost use Rattle.irr_extension.specs.Occurrence.{occurrence_sum, power_at};
 
 use irr_algebra::InField;
 
@@ -128,4 +129,15 @@ pub fn coset_traces_are_sums_of_roots<N: InField>()
         → (es : List ℕ) → All (λ e. e < order) es
         → ((a : ℕ) → a < order → Occurs (top_matrix T D (T.product Q.generator (H.member k)) Q.index top) (power N.field.ring z a) (times_in a es))
         → (order / Q.index * Q.index ≡ order) × AddsUpRoots N.field.ring z Q.index (order / Q.index) es (t k) }
+    ensures by_character { (T : FactorSystem N.field.ring) (H : Subgroup T) (Q : CyclicQuotient H) (d : ℕ) (D : Representation H.table d)
+        (t : Fin H.table.places → N.field.Carrier) → AreExtensionTraces Q D t → (k top : Fin H.table.places)
+        → H.member top ≡ (lifted_power (at_place T (T.product Q.generator (H.member k))) Q.index).place
+        → (order : ℕ) (z : N.field.Carrier) (exponent : Fin T.places → Fin T.places → ℕ) (n q y : ℕ)
+        → HasExponents T order z exponent → 0 < n → 0 < q → order ≡ n * q
+        → (lifted_power (at_place T (T.product Q.generator (H.member k))) n).place ≡ T.start
+        → exponent_sum T exponent (T.product Q.generator (H.member k)) n ≡ n * y
+        → (es : List ℕ) → All (λ e. (e < order) × (e / Q.index * Q.index ≡ e)) es
+        → ((i : ℕ) → i < order / Q.index → N.field.mul (whole N.field.ring (order / Q.index)) (whole N.field.ring (times_in (i * Q.index) es))
+        ≡ occurrence_sum H.table (λ l. trace (D.at l)) (power_at T (T.product Q.generator (H.member k)) Q.index top) z Q.index (order / Q.index) i)
+        → AddsUpRoots N.field.ring z Q.index (order / Q.index) es (t k) }
 {}

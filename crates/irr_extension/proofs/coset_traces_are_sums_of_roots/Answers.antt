@@ -1,6 +1,6 @@
 -- Traces at the coset of the generator.
 use Rattle.irr_extension.proofs.Cosets.{coset-generator, coset-outside}
-use Rattle.irr_extension.proofs.CosetSums.{coset_sum, coset_top}
+use Rattle.irr_extension.proofs.CosetSums.{coset_character_sum, coset_sum, coset_top}
 use Rattle.irr_extension.proofs.coset_traces_are_sums_of_roots.Goals as goal
 
 pub returns-clause-top : goal.returns-clause-top
@@ -12,3 +12,7 @@ returns-clause-outside g c = λ T H Q k. coset-outside Q (T.product Q.generator 
 pub returns-clause-by_exponent : goal.returns-clause-by_exponent
 returns-clause-by_exponent g c = λ T H Q d D t extension k top in_s order z exponent n q y has n_pos q_pos split back sum es below occurs.
     coset_sum g.N.InField.field Q D t extension k top in_s order z exponent n q y has n_pos q_pos split back sum es below occurs
+
+pub returns-clause-by_character : goal.returns-clause-by_character
+returns-clause-by_character g c = λ T H Q d D t extension k top in_s order z exponent n q y has n_pos q_pos split back sum es below counts.
+    coset_character_sum g.N.InField.field Q D t extension k top in_s order z exponent n q y has n_pos q_pos split back sum es below counts
