@@ -33,7 +33,8 @@ use Rattle.irr_extension.proofs.UnitPowers.{occurs_by_mean, spaces_of_unit_power
 
 -- the sum over the powers in terms of the character
 mean-character : {R : Ring} {S : FactorSystem R} {d : ℕ} (D : Representation S d) (v : Lifted S) (z : R.Carrier) (p m i : ℕ)
-    → sum R m (λ j. R.mul (power R (power R z ((m - i) * p)) (to_nat j)) (trace (matrix_power (lifted D v) (to_nat j)))) ≡ occurrence_sum S (λ k. trace (D.at k)) v z p m i
+    → sum R m (λ j. R.mul (power R (power R z ((m - i) * p)) (to_nat j)) (trace (matrix_power (lifted D v) (to_nat j))))
+    ≡ occurrence_sum S (λ k. trace (D.at k)) v z p m i
 unfolding occurrence_sum lifted
 mean-character {R} {S} {d} D v z p m i = ap (sum R m) (fun_ext (λ j. ap₂ R.mul (sym (power-mul R z (to_nat j) ((m - i) * p)))
     (ap trace (matrix_power-lifted D v (to_nat j)) ∙ trace-scale R (lifted_power v (to_nat j)).number (D.at (lifted_power v (to_nat j)).place))))
@@ -108,14 +109,18 @@ module _ (F : Field) where
             (from_nat m (e / p) less, ap (λ k. k * p) (to_nat-from_nat m (e / p) less) ∙ divided)
 
         l : (l : List (Fin m)) × (exponents_of index_exponent l ≡ es)
-        l = indices_of index_exponent (λ e. (e < m * p) × (e / p * p ≡ e)) es (recursion_from_All (λ e. (e < m * p) × (e / p * p ≡ e)) es below) (λ e h ne. index e h)
+        l = indices_of index_exponent (λ e. (e < m * p) × (e / p * p ≡ e)) es (recursion_from_All (λ e. (e < m * p) × (e / p * p ≡ e)) es below)
+            (λ e h ne. index e h)
 
         occurs_at : (a : Fin m) → Occurs (lifted D v) (power R (numbers a) p) (occurrences a l.0)
         occurs_at a =
             subst (λ c. Occurs (lifted D v) c (occurrences a l.0)) (power_swap R z p (to_nat a))
-            (subst (λ k. Occurs (lifted D v) (power R (power R z p) (to_nat a)) k) (sym (times-exponents index_exponent injective a l.0 ∙ ap (times_in (index_exponent a)) l.1))
-            (occurs_by_mean F m (lifted D v) (power R z p) m-pos primitive_value unit_power a (power R z ((m - to_nat a) * p)) (inverse a) (times_in (index_exponent a) es)
+            (subst (λ k. Occurs (lifted D v) (power R (power R z p) (to_nat a)) k)
+            (sym (times-exponents index_exponent injective a l.0 ∙ ap (times_in (index_exponent a)) l.1))
+            (occurs_by_mean F m (lifted D v) (power R z p) m-pos primitive_value unit_power a (power R z ((m - to_nat a) * p)) (inverse a)
+            (times_in (index_exponent a) es)
             (counts (to_nat a) (to_nat-lt a) ∙ sym (mean-character D v z p m (to_nat a)))))
 
         found : (s : R.Carrier) × IsSumOfRoots R p (power R z m) numbers (λ a. occurrences a l.0) s × (trace u ≡ R.mul R.one s)
-        found = trace-root F p (power R z m) R.one R.one numbers (λ a. occurrences a l.0) p-pos primitive_root (one-ne-zero F) (one-power R p) matrix_root different occurs_at
+        found = trace-root F p (power R z m) R.one R.one numbers (λ a. occurrences a l.0) p-pos primitive_root (one-ne-zero F)
+            (one-power R p) matrix_root different occurs_at

@@ -57,8 +57,10 @@ module _ (F : Field) {T : FactorSystem F.ring} {H : Subgroup T} (Q : CyclicQuoti
 
   pub product_of_three : Q.index ≡ 3 → (n m : Fin H.table.places)
       → R.mul (R.mul (whole R H.table.places) (whole R H.table.places))
-      (R.mul (trace (E.at (T.product Q.generator (H.member n)))) (R.mul (trace (E.at (T.product Q.generator (H.member m)))) (trace (E.at (T.product Q.generator (H.member m))))))
-      ≡ R.mul (R.mul (whole R d) (whole R d)) (three_sum H (λ k. trace (D.at k)) position (T.product Q.generator (H.member n)) (T.product Q.generator (H.member m)))
+      (R.mul (trace (E.at (T.product Q.generator (H.member n))))
+      (R.mul (trace (E.at (T.product Q.generator (H.member m)))) (trace (E.at (T.product Q.generator (H.member m))))))
+      ≡ R.mul (R.mul (whole R d) (whole R d)) (three_sum H (λ k. trace (D.at k)) position
+      (T.product Q.generator (H.member n)) (T.product Q.generator (H.member m)))
   unfolding three_sum
   product_of_three three n m =
       ap (R.mul (R.mul h h)) (ap₂ (λ a b. R.mul a (R.mul b b)) (ap trace (sym (lifted-bare E x))) (ap trace (sym (lifted-bare E y))))
@@ -68,8 +70,10 @@ module _ (F : Field) {T : FactorSystem F.ring} {H : Subgroup T} (Q : CyclicQuoti
       ∙ ap (R.mul (whole R d)) (mul-sum R H.table.places (R.mul h (trace (lifted E X))) (λ i. trace (lifted E (inner i)))
       ∙ sum-ext R H.table.places (λ i. R.mul (R.mul h (trace (lifted E X))) (trace (lifted E (inner i))))
       (λ i. R.mul (whole R d) (sum R H.table.places (λ j. value_at H (λ k. trace (D.at k)) position (sandwich T X (H.member j) (inner i))))) outer
-      ∙ sym (mul-sum R H.table.places (whole R d) (λ i. sum R H.table.places (λ j. value_at H (λ k. trace (D.at k)) position (sandwich T X (H.member j) (inner i))))))
-      ∙ sym (R.mul_assoc (whole R d) (whole R d) (sum R H.table.places (λ i. sum R H.table.places (λ j. value_at H (λ k. trace (D.at k)) position (sandwich T X (H.member j) (inner i))))))
+      ∙ sym (mul-sum R H.table.places (whole R d)
+      (λ i. sum R H.table.places (λ j. value_at H (λ k. trace (D.at k)) position (sandwich T X (H.member j) (inner i))))))
+      ∙ sym (R.mul_assoc (whole R d) (whole R d)
+      (sum R H.table.places (λ i. sum R H.table.places (λ j. value_at H (λ k. trace (D.at k)) position (sandwich T X (H.member j) (inner i))))))
     where
       h : R.Carrier
       h = whole R H.table.places

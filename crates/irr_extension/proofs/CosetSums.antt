@@ -37,10 +37,12 @@ extension-top : {R : Ring} {T : FactorSystem R} (H : Subgroup T) {d : ℕ} (D : 
 unfolding lifted restricted
 extension-top {R} {T} H D E extends x p top = ap (scale R (lifted_power (at_place T x) p).number) (extends top)
 
-pub coset_sum : (F : Field) {T : FactorSystem F.ring} {H : Subgroup T} (Q : CyclicQuotient H) {d : ℕ} (D : Representation H.table d) (t : Fin H.table.places → F.Carrier)
+pub coset_sum : (F : Field) {T : FactorSystem F.ring} {H : Subgroup T} (Q : CyclicQuotient H) {d : ℕ} (D : Representation H.table d)
+    (t : Fin H.table.places → F.Carrier)
     → AreExtensionTraces Q D t → (k top : Fin H.table.places) → H.member top ≡ (lifted_power (at_place T (T.product Q.generator (H.member k))) Q.index).place
     → (order : ℕ) (z : F.Carrier) (exponent : Fin T.places → Fin T.places → ℕ) (n q y : ℕ) → HasExponents T order z exponent → 0 < n → 0 < q → order ≡ n * q
-    → (lifted_power (at_place T (T.product Q.generator (H.member k))) n).place ≡ T.start → exponent_sum T exponent (T.product Q.generator (H.member k)) n ≡ n * y
+    → (lifted_power (at_place T (T.product Q.generator (H.member k))) n).place ≡ T.start
+    → exponent_sum T exponent (T.product Q.generator (H.member k)) n ≡ n * y
     → (es : List ℕ) → All (λ e. e < order) es
     → ((a : ℕ) → a < order → Occurs (top_matrix T D (T.product Q.generator (H.member k)) Q.index top) (power F.ring z a) (times_in a es))
     → (order / Q.index * Q.index ≡ order) × AddsUpRoots F.ring z Q.index (order / Q.index) es (t k)
@@ -55,7 +57,8 @@ pub coset_character_sum : (F : Field) {T : FactorSystem F.ring} {H : Subgroup T}
     (t : Fin H.table.places → F.Carrier) → AreExtensionTraces Q D t
     → (k top : Fin H.table.places) → H.member top ≡ (lifted_power (at_place T (T.product Q.generator (H.member k))) Q.index).place
     → (order : ℕ) (z : F.Carrier) (exponent : Fin T.places → Fin T.places → ℕ) (n q y : ℕ) → HasExponents T order z exponent → 0 < n → 0 < q → order ≡ n * q
-    → (lifted_power (at_place T (T.product Q.generator (H.member k))) n).place ≡ T.start → exponent_sum T exponent (T.product Q.generator (H.member k)) n ≡ n * y
+    → (lifted_power (at_place T (T.product Q.generator (H.member k))) n).place ≡ T.start
+    → exponent_sum T exponent (T.product Q.generator (H.member k)) n ≡ n * y
     → (es : List ℕ) → All (λ e. (e < order) × (e / Q.index * Q.index ≡ e)) es
     → ((i : ℕ) → i < order / Q.index → F.mul (whole F.ring (order / Q.index)) (whole F.ring (times_in (i * Q.index) es))
     ≡ occurrence_sum H.table (λ l. trace (D.at l)) (power_at T (T.product Q.generator (H.member k)) Q.index top) z Q.index (order / Q.index) i)
@@ -63,5 +66,5 @@ pub coset_character_sum : (F : Field) {T : FactorSystem F.ring} {H : Subgroup T}
 coset_character_sum F {T} {H} Q {d} D t extension k top in-s order z exponent n q y has n-pos q-pos n-order back sum es below counts =
     let x : Fin T.places = T.product Q.generator (H.member k) in
     subst (λ s. AddsUpRoots F.ring z Q.index (order / Q.index) es s) (extension.trace-coset k)
-    (place_character_sum F (subtable_of H) D extension.family extension.at-member x Q.index top (index-positive Q) in-s (coset-outside Q x (coset-generator Q k))
-    order z exponent n q y has n-pos q-pos n-order back sum es below counts)
+    (place_character_sum F (subtable_of H) D extension.family extension.at-member x Q.index top (index-positive Q) in-s
+    (coset-outside Q x (coset-generator Q k)) order z exponent n q y has n-pos q-pos n-order back sum es below counts)

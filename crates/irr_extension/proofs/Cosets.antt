@@ -75,7 +75,8 @@ module _ {R : Ring} {T : FactorSystem R} {H : Subgroup T} (Q : CyclicQuotient H)
       subst (λ k. IsInCoset k (T.product (T.product (T.product x.place (H.member n)) y.place) (T.opposite (H.member n)))) sizes
       (subst (λ z. IsInCoset (e + 0 + f + 0) (T.product (T.product (T.product x.place (H.member n)) y.place) z)) (sym (member-opposite n))
       (coset-product (e + 0 + f) 0 (T.product (T.product x.place (H.member n)) y.place) (H.member (H.table.opposite n))
-      (coset-product (e + 0) f (T.product x.place (H.member n)) y.place (coset-product e 0 x.place (H.member n) p (coset-member n)) q) (coset-member (H.table.opposite n))))
+      (coset-product (e + 0) f (T.product x.place (H.member n)) y.place (coset-product e 0 x.place (H.member n) p (coset-member n)) q)
+      (coset-member (H.table.opposite n))))
     where
       sizes : e + 0 + f + 0 ≡ e + f
       sizes = omega arith
@@ -93,7 +94,8 @@ module _ {R : Ring} {T : FactorSystem R} {H : Subgroup T} (Q : CyclicQuotient H)
   coset-power x p zero = subst (IsInCoset 0) H.member-start (coset-member H.table.start)
   coset-power x p (suc k) =
       let next : 1 + k ≡ suc k = omega arith in
-      subst (λ e. IsInCoset e (T.product x (Step.lifted_power (at_place T x) k).place)) next (coset-product 1 k x (Step.lifted_power (at_place T x) k).place p (coset-power x p k))
+      subst (λ e. IsInCoset e (T.product x (Step.lifted_power (at_place T x) k).place)) next
+      (coset-product 1 k x (Step.lifted_power (at_place T x) k).place p (coset-power x p k))
 
   -- a member is in no coset of another exponent
   coset-apart : (k : ℕ) → 0 < k → k < Q.index → (i : Fin H.table.places) → IsInCoset k (H.member i) → ⊥

@@ -52,7 +52,8 @@ module _ {k : ℕ} (exponent : Fin k → ℕ) where
       let l = indices_of P es each.1 (λ f h ne. found f h (times_in-later f e es ne)) in
       (a.0 ∷ l.0, ap₂ (λ f fs. f ∷ fs) a.1 l.1)
 
-  pub times-exponents : ((a b : Fin k) → exponent a ≡ exponent b → a ≡ b) → (a : Fin k) (l : List (Fin k)) → occurrences a l ≡ times_in (exponent a) (exponents_of l)
+  pub times-exponents : ((a b : Fin k) → exponent a ≡ exponent b → a ≡ b) → (a : Fin k) (l : List (Fin k))
+      → occurrences a l ≡ times_in (exponent a) (exponents_of l)
   unfolding exponents_of occurrences one_more
   times-exponents injective a [] = refl
   times-exponents injective a (b ∷ l) = one (same_or_not b a) (times-exponents injective a l) ∙ sym (times_in-cons (exponent a) (exponent b) (exponents_of l))

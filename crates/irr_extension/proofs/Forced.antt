@@ -22,7 +22,8 @@ use Rattle.irr_clifford.proofs.Roots.{extension-coset, number_power-mul, number_
 use Rattle.irr_extension.specs.Product.{three_sum, two_sum}
 use Rattle.irr_extension.proofs.CosetProducts.{product_of_three, product_of_two}
 
-module _ (F : Field) {T : FactorSystem F.ring} {H : Subgroup T} (Q : CyclicQuotient H) {d : ℕ} (D : Representation H.table d) (l : 0 < d) (simple : IsSimple D.at)
+module _ (F : Field) {T : FactorSystem F.ring} {H : Subgroup T} (Q : CyclicQuotient H) {d : ℕ} (D : Representation H.table d) (l : 0 < d)
+    (simple : IsSimple D.at)
     (t : Fin H.table.places → F.Carrier) (extension : AreExtensionTraces Q D t) where
   open F use {ring as R}
 
@@ -92,7 +93,8 @@ module _ (F : Field) {T : FactorSystem F.ring} {H : Subgroup T} (Q : CyclicQuoti
         ap (R.mul (T.phase Q.generator (H.member n))) (sym (root-times n)) ∙ mul_left_comm R (T.phase Q.generator (H.member n)) root (t n)
         ∙ ap (R.mul root) (trace-member n) ∙ sym (ap trace (scale-mul R root u (D.at n)) ∙ trace-scale R root (u · D.at n)))
 
-module _ (F : Field) {T : FactorSystem F.ring} {H : Subgroup T} (Q : CyclicQuotient H) {d : ℕ} (D : Representation H.table d) (l : 0 < d) (simple : IsSimple D.at)
+module _ (F : Field) {T : FactorSystem F.ring} {H : Subgroup T} (Q : CyclicQuotient H) {d : ℕ} (D : Representation H.table d) (l : 0 < d)
+    (simple : IsSimple D.at)
     (s t : Fin H.table.places → F.Carrier) (extension : AreExtensionTraces Q D t)
     (position : Fin T.places → Fin H.table.places) (at_member : (n : Fin H.table.places) → position (H.member n) ≡ n)
     (m : Fin H.table.places) (s-ne : s m ≡ F.zero → ⊥) where
@@ -115,7 +117,8 @@ module _ (F : Field) {T : FactorSystem F.ring} {H : Subgroup T} (Q : CyclicQuoti
 
   pub forced_by_three : Q.index ≡ 3
       → ((n : Fin H.table.places) → R.mul (R.mul (whole R H.table.places) (whole R H.table.places)) (R.mul (s n) (R.mul (s m) (s m)))
-      ≡ R.mul (R.mul (whole R d) (whole R d)) (three_sum H (λ k. trace (D.at k)) position (T.product Q.generator (H.member n)) (T.product Q.generator (H.member m))))
+      ≡ R.mul (R.mul (whole R d) (whole R d)) (three_sum H (λ k. trace (D.at k)) position
+      (T.product Q.generator (H.member n)) (T.product Q.generator (H.member m))))
       → AreExtensionTraces Q D s
   unfolding number_power
   forced_by_three three same = traces_forced F Q D l simple t extension s m s-ne 2 three (λ n.

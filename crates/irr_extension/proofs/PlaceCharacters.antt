@@ -86,5 +86,6 @@ module _ (F : Field) where
 
       unit_at_m : matrix_power (lifted D v) (order / p) ≡ unit R d
       unit_at_m = unit_power (lifted D v) (λ a. power R (cycle_numbers made.0 (suc multiple.0) a) p) given.eigenspaces (order / p) (λ a.
-          ap (λ c. power R c (order / p)) (exponent-value made.0 z q y multiple.0 p made.2 made.3 pos (ap (power R z) (sym whole_order) ∙ has.primitive.power-one) a)
+          ap (λ c. power R c (order / p)) (exponent-value made.0 z q y multiple.0 p made.2 made.3 pos (ap (power R z) (sym whole_order)
+          ∙ has.primitive.power-one) a)
           ∙ power-multiple-one R z ((y + to_nat a * q) % (suc multiple.0 * q)) (order / p) p (ap (power R z) (sym parts) ∙ has.primitive.power-one))

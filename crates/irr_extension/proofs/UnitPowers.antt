@@ -23,18 +23,21 @@ use Rattle.irr_eigen.proofs.Primitive.{primitive_inj}
 use Rattle.irr_eigen.proofs.RootsOfOne.{eigenspaces_of_power}
 
 -- a power on an eigenspace
-power-eigen : {R : Ring} {d e : ℕ} (v : Matrix R d d) (c : R.Carrier) (a : Matrix R d e) → v · a ≡ scale R c a → (j : ℕ) → matrix_power v j · a ≡ scale R (power R c j) a
+power-eigen : {R : Ring} {d e : ℕ} (v : Matrix R d d) (c : R.Carrier) (a : Matrix R d e) → v · a ≡ scale R c a → (j : ℕ)
+    → matrix_power v j · a ≡ scale R (power R c j) a
 unfolding matrix_power power
 power-eigen v c a h zero = unit-mul a ∙ sym (scale-one a)
 power-eigen {R} {d} {e} v c a h (suc j) =
     mul_assoc v (matrix_power v j) a ∙ ap (λ (m : Matrix R d e). v · m) (power-eigen v c a h j) ∙ mul-scale R (power R c j) v a
     ∙ ap (scale R (power R c j)) h ∙ scale-scale R (power R c j) c a ∙ ap (λ k. scale R k a) (R.mul_comm (power R c j) c)
 
-pub unit_power : {R : Ring} {d k : ℕ} (v : Matrix R d d) (values : Fin k → R.Carrier) → Eigenspaces v values → (m : ℕ) → ((a : Fin k) → power R (values a) m ≡ R.one)
+pub unit_power : {R : Ring} {d k : ℕ} (v : Matrix R d d) (values : Fin k → R.Carrier) → Eigenspaces v values → (m : ℕ)
+    → ((a : Fin k) → power R (values a) m ≡ R.one)
     → matrix_power v m ≡ unit R d
 unit_power {R} {d} {k} v values e m one =
     sym (mul-unit (matrix_power v m)) ∙ ap (λ (a : Matrix R d d). matrix_power v m · a) (sym e.adds_up) ∙ mul-total k (matrix_power v m) e.projection
-    ∙ total-ext k (λ a. power-eigen v (values a) (e.projection a) (e.eigen a) m ∙ ap (λ c. scale R c (e.projection a)) (one a) ∙ scale-one (e.projection a)) ∙ e.adds_up
+    ∙ total-ext k (λ a. power-eigen v (values a) (e.projection a) (e.eigen a) m ∙ ap (λ c. scale R c (e.projection a)) (one a)
+    ∙ scale-one (e.projection a)) ∙ e.adds_up
 
 module _ (F : Field) where
   open F use {ring as R}

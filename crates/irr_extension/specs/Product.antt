@@ -21,7 +21,8 @@ unfoldable pub sandwich : {R : Ring} (T : FactorSystem R) → Lifted T → Fin T
 sandwich T x n y = lifted_product (lifted_product (lifted_product x (at_place T n)) y) (opposite_of T n)
 
 -- the number times the character of the subgroup at the member that stands at the place
-unfoldable pub value_at : {R : Ring} {T : FactorSystem R} (H : Subgroup T) → (Fin H.table.places → R.Carrier) → (Fin T.places → Fin H.table.places) → Lifted T → R.Carrier
+unfoldable pub value_at : {R : Ring} {T : FactorSystem R} (H : Subgroup T) → (Fin H.table.places → R.Carrier) → (Fin T.places → Fin H.table.places)
+    → Lifted T → R.Carrier
 value_at {R} H character position z = R.mul z.number (character (position z.place))
 
 -- for two places outside a subgroup of index 2

@@ -26,8 +26,8 @@ ghost use Rattle.irr_extension.specs.Occurrence.{occurrence_sum, power_at};
 use irr_algebra::InField;
 
 /// The product of two traces of an extension of a simple family is a sum of traces over the members of the
-/// subgroup: h tr E(x) tr E(y) = d times the sum of tr E(x n y n^-1), with the phases as numbers beside the
-/// places. Here h is the number of members and d the size.
+/// subgroup, by Schur's lemma: h tr E(x) tr E(y) = d times the sum of tr E(x n y n^-1), with the phases as numbers
+/// beside the places. Here h is the number of members and d the size.
 pub fn product_of_traces<N: InField>()
     ensures places { (T : FactorSystem N.field.ring) (H : Subgroup T) (d : ℕ) (D : Representation H.table d) (E : Representation T d)
         → 0 < d → IsSimple D.at → ((n : Fin H.table.places) → E.at (H.member n) ≡ D.at n) → (x y : Fin T.places)
@@ -62,7 +62,8 @@ pub fn product_with_powers<N: InField>()
 
 /// The traces of an extension at the coset of the generator are not all 0.
 pub fn some_trace_is_not_zero<N: InField>()
-    ensures { (T : FactorSystem N.field.ring) (H : Subgroup T) (Q : CyclicQuotient H) (d : ℕ) (D : Representation H.table d) (t : Fin H.table.places → N.field.Carrier)
+    ensures { (T : FactorSystem N.field.ring) (H : Subgroup T) (Q : CyclicQuotient H) (d : ℕ) (D : Representation H.table d)
+        (t : Fin H.table.places → N.field.Carrier)
         → 0 < d → IsSimple D.at → AreExtensionTraces Q D t → (m : Fin H.table.places) × (t m ≡ N.field.zero → ⊥) }
 {}
 
@@ -70,7 +71,8 @@ pub fn some_trace_is_not_zero<N: InField>()
 /// the traces of an extension; here p is the index. So are numbers with the sums of the character of the simple
 /// family as these products, where it has an extension and p is 2 or 3.
 pub fn traces_are_forced<N: InField>()
-    ensures powers { (T : FactorSystem N.field.ring) (H : Subgroup T) (Q : CyclicQuotient H) (d : ℕ) (D : Representation H.table d) (s t : Fin H.table.places → N.field.Carrier)
+    ensures powers { (T : FactorSystem N.field.ring) (H : Subgroup T) (Q : CyclicQuotient H) (d : ℕ) (D : Representation H.table d)
+        (s t : Fin H.table.places → N.field.Carrier)
         → 0 < d → IsSimple D.at → AreExtensionTraces Q D t → (m : Fin H.table.places) → (s m ≡ N.field.zero → ⊥) → (q : ℕ) → Q.index ≡ suc q
         → ((n : Fin H.table.places) → N.field.mul (s n) (number_power N.field.ring (s m) q) ≡ N.field.mul (t n) (number_power N.field.ring (t m) q))
         → AreExtensionTraces Q D s }
@@ -101,10 +103,13 @@ pub fn traces_are_sums_of_roots<N: InField>()
         → (p ≡ 2) ⊎ (p ≡ 3) → part.place top ≡ (lifted_power (at_place T x) p).place → IsOutside part x p → (cycle : Cycle T x)
         → (m : ℕ) × (cycle.order ≡ suc m * p) × ((l : List (Fin (suc m)))
         → ((a : Fin (suc m)) → Occurs (top_matrix T (restricted part E) x p top) (power N.field.ring (cycle_numbers cycle (suc m) a) p) (occurrences a l))
-        → AddsUp N.field.ring (λ a (j : Fin p). N.field.mul (cycle_numbers cycle (suc m) a) (power N.field.ring (power N.field.ring cycle.root (suc m)) (to_nat j))) l (trace (E.at x))) }
-    ensures by_exponent { (S T : FactorSystem N.field.ring) (part : Subtable S T) (d : ℕ) (E : Representation T d) (x : Fin T.places) (p : ℕ) (top : Fin S.places)
+        → AddsUp N.field.ring (λ a (j : Fin p). N.field.mul (cycle_numbers cycle (suc m) a)
+        (power N.field.ring (power N.field.ring cycle.root (suc m)) (to_nat j))) l (trace (E.at x))) }
+    ensures by_exponent { (S T : FactorSystem N.field.ring) (part : Subtable S T) (d : ℕ) (E : Representation T d) (x : Fin T.places) (p : ℕ)
+        (top : Fin S.places)
         → (p ≡ 2) ⊎ (p ≡ 3) → part.place top ≡ (lifted_power (at_place T x) p).place → IsOutside part x p
-        → (order : ℕ) (z : N.field.Carrier) (exponent : Fin T.places → Fin T.places → ℕ) (n q y : ℕ) → HasExponents T order z exponent → 0 < n → 0 < q → order ≡ n * q
+        → (order : ℕ) (z : N.field.Carrier) (exponent : Fin T.places → Fin T.places → ℕ) (n q y : ℕ) → HasExponents T order z exponent → 0 < n → 0 < q
+        → order ≡ n * q
         → (lifted_power (at_place T x) n).place ≡ T.start → exponent_sum T exponent x n ≡ n * y
         → (es : List ℕ) → All (λ e. e < order) es
         → ((a : ℕ) → a < order → Occurs (top_matrix T (restricted part E) x p top) (power N.field.ring z a) (times_in a es))
@@ -113,7 +118,7 @@ pub fn traces_are_sums_of_roots<N: InField>()
 
 /// The trace of an extension at a place x of the coset of the generator is a sum of roots of the eigenvalues
 /// that the family on the subgroup has at the power p of x, where p is the index: that power is a member, and no
-/// lower one is.
+/// lower one is. By the exponents of these eigenvalues, which sums of the family's character at powers tell.
 pub fn coset_traces_are_sums_of_roots<N: InField>()
     ensures top { (T : FactorSystem N.field.ring) (H : Subgroup T) (Q : CyclicQuotient H) (k : Fin H.table.places)
         → (top : Fin H.table.places) × (H.member top ≡ (lifted_power (at_place T (T.product Q.generator (H.member k))) Q.index).place) }
