@@ -1,5 +1,6 @@
 -- The sum of roots at a place from the character of a family on the subgroup.
---   character_sum_of_roots: the exponents are found by sums of the character at powers
+--   multiplicity: these sums are numbers of times
+--   character_sum: the sum over the exponents that they tell
 use Rattle.std.proofs.Common.{◌≡◌, sym, ◌∙◌, ap, ap₂, refl, subst, ℕ, ◌<◌, ◌+◌, ◌-◌, ◌*◌, ◌/◌, List, All, arith}
 use mathlib.Core.Path.{fun_ext}
 use Rattle.std.proofs.Math.Nat as Nat
@@ -29,7 +30,7 @@ use Rattle.irr_extension.specs.Occurrence.{occurrence_sum}
 use Rattle.irr_extension.proofs.ExponentLists.{exponents_of, indices_of, times-exponents}
 use Rattle.irr_extension.proofs.ExponentSums.{sum_by_exponents}
 use Rattle.irr_extension.proofs.RootSums.{list_sum_of}
-use Rattle.irr_extension.proofs.UnitPowers.{occurs_by_mean, spaces_of_unit_power}
+use Rattle.irr_extension.proofs.UnitPowers.{occurs_by_mean, spaces_of_unit_power, times_by_mean}
 
 -- the sum over the powers in terms of the character
 mean-character : {R : Ring} {S : FactorSystem R} {d : ℕ} (D : Representation S d) (v : Lifted S) (z : R.Carrier) (p m i : ℕ)
@@ -82,6 +83,12 @@ module _ (F : Field) where
         let all : to_nat i + (m - to_nat i) ≡ m = omega (arith, l) in
         ap (λ x. R.mul x (power R z ((m - to_nat i) * p))) (sym (power-mul R z (to_nat i) p)) ∙ sym (power-add R z (to_nat i * p) ((m - to_nat i) * p))
         ∙ ap (power R z) (sym (Nat.add-mul (to_nat i) (m - to_nat i) p) ∙ ap (λ k. k * p) all) ∙ primitive.power-one
+
+    pub multiplicity : (i : ℕ) → i < m → (n : ℕ) × (R.mul (whole R m) (whole R n) ≡ occurrence_sum S (λ k. trace (D.at k)) v z p m i)
+    multiplicity i l =
+        let a : Fin m = from_nat m i l in
+        let n = times_by_mean F m (lifted D v) (power R z p) m-pos primitive_value unit_power a (power R z ((m - to_nat a) * p)) (inverse a) in
+        (n.0, n.1 ∙ mean-character D v z p m (to_nat a) ∙ ap (occurrence_sum S (λ k. trace (D.at k)) v z p m) (to_nat-from_nat m i l))
 
     pub character_sum : (es : List ℕ) → All (λ e. (e < m * p) × (e / p * p ≡ e)) es
         → ((i : ℕ) → i < m → R.mul (whole R m) (whole R (times_in (i * p) es)) ≡ occurrence_sum S (λ k. trace (D.at k)) v z p m i)

@@ -1,6 +1,7 @@
 -- The trace of an extension at a place of the coset of the generator as a sum of roots, from the family on the subgroup.
 --   coset_top: the member at which the power of the place by the index stands
 --   coset_sum: the sum of roots by exponents
+--   coset_multiplicity: the sums of the character are numbers of times
 --   coset_character_sum: by exponents that the character of the family on the subgroup tells
 use Rattle.std.proofs.Common.{◌≡◌, sym, ap, subst, ℕ, ◌<◌, ◌*◌, ◌/◌, List, All}
 use Rattle.irr_algebra.specs.Ring.{Ring, whole}
@@ -21,7 +22,7 @@ use Rattle.irr_extension.specs.Exponents.{AddsUpRoots, times_in}
 use Rattle.irr_extension.specs.Occurrence.{occurrence_sum, power_at}
 use Rattle.irr_extension.proofs.Cosets.{coset-generator, coset-outside, coset-power, coset-whole}
 use Rattle.irr_extension.proofs.ExponentSums.{exponent_sum_of_roots}
-use Rattle.irr_extension.proofs.PlaceCharacters.{place_character_sum}
+use Rattle.irr_extension.proofs.PlaceCharacters.{place_character_sum, place_multiplicity}
 
 pub coset_top : {R : Ring} {T : FactorSystem R} {H : Subgroup T} (Q : CyclicQuotient H) (k : Fin H.table.places)
     → (top : Fin H.table.places) × (H.member top ≡ (lifted_power (at_place T (T.product Q.generator (H.member k))) Q.index).place)
@@ -68,3 +69,16 @@ coset_character_sum F {T} {H} Q {d} D t extension k top in-s order z exponent n 
     subst (λ s. AddsUpRoots F.ring z Q.index (order / Q.index) es s) (extension.trace-coset k)
     (place_character_sum F (subtable_of H) D extension.family extension.at-member x Q.index top (index-positive Q) in-s
     (coset-outside Q x (coset-generator Q k)) order z exponent n q y has n-pos q-pos n-order back sum es below counts)
+
+pub coset_multiplicity : (F : Field) {T : FactorSystem F.ring} {H : Subgroup T} (Q : CyclicQuotient H) {d : ℕ} (D : Representation H.table d)
+    (t : Fin H.table.places → F.Carrier) → AreExtensionTraces Q D t
+    → (k top : Fin H.table.places) → H.member top ≡ (lifted_power (at_place T (T.product Q.generator (H.member k))) Q.index).place
+    → (order : ℕ) (z : F.Carrier) (exponent : Fin T.places → Fin T.places → ℕ) (n q y : ℕ) → HasExponents T order z exponent → 0 < n → 0 < q → order ≡ n * q
+    → (lifted_power (at_place T (T.product Q.generator (H.member k))) n).place ≡ T.start
+    → exponent_sum T exponent (T.product Q.generator (H.member k)) n ≡ n * y
+    → (i : ℕ) → i < order / Q.index → (times : ℕ) × (F.mul (whole F.ring (order / Q.index)) (whole F.ring times)
+    ≡ occurrence_sum H.table (λ l. trace (D.at l)) (power_at T (T.product Q.generator (H.member k)) Q.index top) z Q.index (order / Q.index) i)
+coset_multiplicity F {T} {H} Q {d} D t extension k top in-s order z exponent n q y has n-pos q-pos n-order back sum =
+    let x : Fin T.places = T.product Q.generator (H.member k) in
+    place_multiplicity F (subtable_of H) D extension.family extension.at-member x Q.index top (index-positive Q) in-s
+    (coset-outside Q x (coset-generator Q k)) order z exponent n q y has n-pos q-pos n-order back sum

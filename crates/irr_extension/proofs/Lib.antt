@@ -10,3 +10,4 @@ pub mod CosetSums
 pub mod UnitPowers
 pub mod CharacterSums
 pub mod PlaceCharacters
+pub mod Example

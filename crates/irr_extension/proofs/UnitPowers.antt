@@ -2,6 +2,7 @@
 --   unit_power: the power is 1 where that of each eigenvalue is
 --   spaces_of_unit_power: the eigenspaces
 --   occurs_by_mean: what the mean over the traces of the powers says
+--   times_by_mean: this mean is a number of times
 use Rattle.std.proofs.Common.{◌≡◌, sym, ◌∙◌, ap, subst, ℕ, zero, suc, ◌<◌, arith}
 use mathlib.Core.Path.{fun_ext}
 use Rattle.irr_algebra.specs.Ring.{Ring, whole}
@@ -72,3 +73,20 @@ module _ (F : Field) where
       same = whole_inj F found.0 n (mul_cancel F (whole R (suc m)) (whole R found.0) (whole R n) (F.characteristic_zero m)
           (occurs-mean F m v R.one z (one-ne-zero F) primitive (as_power_of_one (suc m) v e) i y
           (ap (λ c. R.mul c y) (one-mul R (power R z (to_nat i))) ∙ inverse) found.0 found.1 ∙ sym mean))
+
+  -- and the mean is a number of times
+  pub times_by_mean : {d : ℕ} (m : ℕ) (v : Matrix R d d) (z : R.Carrier) → 0 < m → IsPrimitiveRoot R m z → matrix_power v m ≡ unit R d
+      → (i : Fin m) (y : R.Carrier) → R.mul (power R z (to_nat i)) y ≡ R.one
+      → (n : ℕ) × (R.mul (whole R m) (whole R n) ≡ sum R m (λ j. R.mul (power R y (to_nat j)) (trace (matrix_power v (to_nat j)))))
+  times_by_mean zero v z positive primitive e i y inverse = absurd (omega arith)
+  times_by_mean {d} (suc m) v z positive primitive e i y inverse = (
+    found.0,
+    occurs-mean F m v R.one z (one-ne-zero F) primitive (as_power_of_one (suc m) v e) i y (ap (λ c. R.mul c y) (one-mul R (power R z (to_nat i))) ∙ inverse)
+        found.0 found.1,
+  )
+    where
+      different : (a b : Fin (suc m)) → R.mul R.one (power R z (to_nat a)) ≡ R.mul R.one (power R z (to_nat b)) → a ≡ b
+      different a b s = primitive_inj F (suc m) z primitive a b (mul_cancel F R.one (power R z (to_nat a)) (power R z (to_nat b)) (one-ne-zero F) s)
+
+      found : (k : ℕ) × Occurs v (R.mul R.one (power R z (to_nat i))) k
+      found = occurs F (eigenspaces_of_power F m v R.one z (one-ne-zero F) primitive (as_power_of_one (suc m) v e)) different i

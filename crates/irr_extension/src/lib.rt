@@ -118,7 +118,8 @@ pub fn traces_are_sums_of_roots<N: InField>()
 
 /// The trace of an extension at a place x of the coset of the generator is a sum of roots of the eigenvalues
 /// that the family on the subgroup has at the power p of x, where p is the index: that power is a member, and no
-/// lower one is. By the exponents of these eigenvalues, which sums of the family's character at powers tell.
+/// lower one is. By the exponents of these eigenvalues; sums of
+/// the family's character at powers of that member tell how often each occurs.
 pub fn coset_traces_are_sums_of_roots<N: InField>()
     ensures top { (T : FactorSystem N.field.ring) (H : Subgroup T) (Q : CyclicQuotient H) (k : Fin H.table.places)
         → (top : Fin H.table.places) × (H.member top ≡ (lifted_power (at_place T (T.product Q.generator (H.member k))) Q.index).place) }
@@ -134,6 +135,15 @@ pub fn coset_traces_are_sums_of_roots<N: InField>()
         → (es : List ℕ) → All (λ e. e < order) es
         → ((a : ℕ) → a < order → Occurs (top_matrix T D (T.product Q.generator (H.member k)) Q.index top) (power N.field.ring z a) (times_in a es))
         → (order / Q.index * Q.index ≡ order) × AddsUpRoots N.field.ring z Q.index (order / Q.index) es (t k) }
+    ensures multiplicity { (T : FactorSystem N.field.ring) (H : Subgroup T) (Q : CyclicQuotient H) (d : ℕ) (D : Representation H.table d)
+        (t : Fin H.table.places → N.field.Carrier) → AreExtensionTraces Q D t → (k top : Fin H.table.places)
+        → H.member top ≡ (lifted_power (at_place T (T.product Q.generator (H.member k))) Q.index).place
+        → (order : ℕ) (z : N.field.Carrier) (exponent : Fin T.places → Fin T.places → ℕ) (n q y : ℕ)
+        → HasExponents T order z exponent → 0 < n → 0 < q → order ≡ n * q
+        → (lifted_power (at_place T (T.product Q.generator (H.member k))) n).place ≡ T.start
+        → exponent_sum T exponent (T.product Q.generator (H.member k)) n ≡ n * y
+        → (i : ℕ) → i < order / Q.index → (times : ℕ) × (N.field.mul (whole N.field.ring (order / Q.index)) (whole N.field.ring times)
+        ≡ occurrence_sum H.table (λ l. trace (D.at l)) (power_at T (T.product Q.generator (H.member k)) Q.index top) z Q.index (order / Q.index) i) }
     ensures by_character { (T : FactorSystem N.field.ring) (H : Subgroup T) (Q : CyclicQuotient H) (d : ℕ) (D : Representation H.table d)
         (t : Fin H.table.places → N.field.Carrier) → AreExtensionTraces Q D t → (k top : Fin H.table.places)
         → H.member top ≡ (lifted_power (at_place T (T.product Q.generator (H.member k))) Q.index).place
