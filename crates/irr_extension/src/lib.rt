@@ -60,11 +60,22 @@ pub fn product_with_powers<N: InField>()
         (three_sum H (λ k. trace (D.at k)) position (T.product Q.generator (H.member n)) (T.product Q.generator (H.member m))) }
 {}
 
-/// The traces of an extension at the coset of the generator are not all 0.
+/// The traces of an extension at the coset of the generator are not all 0; nor are the sums of the character of
+/// the simple family that are their powers by the index.
 pub fn some_trace_is_not_zero<N: InField>()
-    ensures { (T : FactorSystem N.field.ring) (H : Subgroup T) (Q : CyclicQuotient H) (d : ℕ) (D : Representation H.table d)
+    ensures trace { (T : FactorSystem N.field.ring) (H : Subgroup T) (Q : CyclicQuotient H) (d : ℕ) (D : Representation H.table d)
         (t : Fin H.table.places → N.field.Carrier)
         → 0 < d → IsSimple D.at → AreExtensionTraces Q D t → (m : Fin H.table.places) × (t m ≡ N.field.zero → ⊥) }
+    ensures two { (T : FactorSystem N.field.ring) (H : Subgroup T) (Q : CyclicQuotient H) (d : ℕ) (D : Representation H.table d)
+        (t : Fin H.table.places → N.field.Carrier) → 0 < d → IsSimple D.at → AreExtensionTraces Q D t → Q.index ≡ 2
+        → (position : Fin T.places → Fin H.table.places) → ((n : Fin H.table.places) → position (H.member n) ≡ n)
+        → (m : Fin H.table.places)
+        × (two_sum H (λ k. trace (D.at k)) position (T.product Q.generator (H.member m)) (T.product Q.generator (H.member m)) ≡ N.field.zero → ⊥) }
+    ensures three { (T : FactorSystem N.field.ring) (H : Subgroup T) (Q : CyclicQuotient H) (d : ℕ) (D : Representation H.table d)
+        (t : Fin H.table.places → N.field.Carrier) → 0 < d → IsSimple D.at → AreExtensionTraces Q D t → Q.index ≡ 3
+        → (position : Fin T.places → Fin H.table.places) → ((n : Fin H.table.places) → position (H.member n) ≡ n)
+        → (m : Fin H.table.places)
+        × (three_sum H (λ k. trace (D.at k)) position (T.product Q.generator (H.member m)) (T.product Q.generator (H.member m)) ≡ N.field.zero → ⊥) }
 {}
 
 /// Numbers with the products s(n) s(m)^(p - 1) of the traces of an extension, for one m where s is not 0, are
