@@ -12,7 +12,7 @@ use Rattle.irr_theory.specs.Lifted.{Lifted, lifted_product}
 use Rattle.irr_eigen.specs.Step.{at_place}
 use Rattle.irr_clifford.specs.Subgroup.{Subgroup}
 
--- the inverse of n with the number 1
+-- the inverse of the lifted place n, whose number is 1
 unfoldable pub opposite_of : {R : Ring} (T : FactorSystem R) → Fin T.places → Lifted T
 opposite_of T n = record { number = (T.phase-invertible n (T.opposite n)).inverse; place = T.opposite n }
 
