@@ -1,7 +1,7 @@
 -- Products of traces at places of the coset of the generator, by the character of the subgroup.
 --   product_of_two: for the index 2
 --   product_of_three: for the index 3
-use Rattle.std.proofs.Common.{◌≡◌, sym, ◌∙◌, ap, ap₂, subst, ℕ, ◌<◌, ◌+◌, arith}
+use Rattle.std.proofs.Common.{◌≡◌, sym, ◌∙◌, ap, ap₂, subst, ℕ, ◌<◌}
 use Rattle.irr_algebra.specs.Ring.{Ring, whole}
 use Rattle.irr_algebra.specs.Field.{Field}
 use Rattle.irr_algebra.specs.Fin.{Fin}
@@ -11,80 +11,29 @@ use Rattle.irr_algebra.specs.Action.{IsSimple}
 use Rattle.irr_algebra.proofs.Rings.{mul_left_comm}
 use Rattle.irr_algebra.proofs.Matrices.{trace-scale}
 use Rattle.irr_algebra.proofs.Sums.{mul-sum, sum-ext}
-use Rattle.irr_theory.specs.Extension.{iterate}
 use Rattle.irr_theory.specs.FactorSystem.{FactorSystem, Representation}
-use Rattle.irr_theory.specs.Lifted.{Lifted, lifted, lifted_product}
+use Rattle.irr_theory.specs.Lifted.{Lifted, lifted}
 use Rattle.irr_eigen.specs.Step.{at_place}
 use Rattle.irr_clifford.specs.Subgroup.{Subgroup}
 use Rattle.irr_clifford.specs.Cyclic.{CyclicQuotient}
 use Rattle.irr_clifford.proofs.Representations.{lifted-bare}
-use Rattle.irr_clifford.proofs.Split.{◌⋆◌, bare, inside, inside-mul, inside-steps, lifted_assoc, lifted_power, lifted_power-add, lifted_power-place, moved, place_cancel, step, steps}
-use Rattle.irr_extension.specs.Product.{opposite_of, sandwich, three_sum, two_sum, value_at}
+use Rattle.irr_extension.specs.Product.{sandwich, three_sum, two_sum, value_at}
+use Rattle.irr_extension.proofs.Cosets.{IsInCoset, coset-generator, coset-sandwich, coset-whole}
 use Rattle.irr_extension.proofs.Products.{product_of_traces}
 
-module _ {R : Ring} {T : FactorSystem R} {H : Subgroup T} (Q : CyclicQuotient H) where
-  -- a product of powers of the generator with members
-  steps-product : (e f : ℕ) (w v : Lifted H.table) → ◌⋆◌ T (◌⋆◌ T (steps Q e) (inside Q w)) (◌⋆◌ T (steps Q f) (inside Q v))
-      ≡ ◌⋆◌ T (steps Q (e + f)) (inside Q (◌⋆◌ H.table (iterate (moved Q) f w) v))
-  steps-product e f w v =
-      lifted_assoc T (steps Q e) (inside Q w) (◌⋆◌ T (steps Q f) (inside Q v))
-      ∙ ap (◌⋆◌ T (steps Q e)) (sym (lifted_assoc T (inside Q w) (steps Q f) (inside Q v)) ∙ ap (λ k. ◌⋆◌ T k (inside Q v)) (inside-steps Q f w)
-      ∙ lifted_assoc T (steps Q f) (inside Q (iterate (moved Q) f w)) (inside Q v) ∙ ap (◌⋆◌ T (steps Q f)) (sym (inside-mul Q (iterate (moved Q) f w) v)))
-      ∙ sym (lifted_assoc T (steps Q e) (steps Q f) (inside Q (◌⋆◌ H.table (iterate (moved Q) f w) v)))
-      ∙ ap (λ k. ◌⋆◌ T k (inside Q (◌⋆◌ H.table (iterate (moved Q) f w) v))) (sym (lifted_power-add T (step Q) e f))
+module _ {R : Ring} {T : FactorSystem R} {H : Subgroup T} (Q : CyclicQuotient H) {d : ℕ} (D : Representation H.table d) (E : Representation T d)
+    (extends : (n : Fin H.table.places) → E.at (H.member n) ≡ D.at n)
+    (position : Fin T.places → Fin H.table.places) (at_member : (n : Fin H.table.places) → position (H.member n) ≡ n) where
+  trace-inside : (z : Lifted T) → IsInCoset Q Q.index z.place → trace (lifted E z) ≡ value_at H (λ k. trace (D.at k)) position z
+  unfolding lifted value_at
+  trace-inside z inside_coset =
+      let v = coset-whole Q z.place inside_coset in
+      trace-scale R z.number (E.at z.place)
+      ∙ ap (R.mul z.number) (ap trace (ap E.at v.1 ∙ extends v.0) ∙ ap (λ k. trace (D.at k)) (sym (at_member v.0) ∙ ap position (sym v.1)))
 
-  -- the place is the power e of the generator times a member
-  abbrev IsInCoset : ℕ → Fin T.places → Type 0
-  IsInCoset e z = (w : Fin H.table.places) × (z ≡ T.product (steps Q e).place (H.member w))
-
-  coset-product : (e f : ℕ) (a b : Fin T.places) → IsInCoset e a → IsInCoset f b → IsInCoset (e + f) (T.product a b)
-  unfolding lifted_product
-  coset-product e f a b (w, p) (v, q) = (
-    (◌⋆◌ H.table (iterate (moved Q) f (bare H.table w)) (bare H.table v)).place,
-    ap₂ T.product p q ∙ ap (λ (z : Lifted T). z.place) (steps-product e f (bare H.table w) (bare H.table v)),
-  )
-
-  coset-member : (n : Fin H.table.places) → IsInCoset 0 (H.member n)
-  unfolding lifted_power
-  coset-member n = (n, sym (T.start-product (H.member n)))
-
-  coset-generator : (n : Fin H.table.places) → IsInCoset 1 (T.product Q.generator (H.member n))
-  unfolding lifted_power lifted_product
-  coset-generator n = (n, ap (λ g. T.product g (H.member n)) (sym (T.product-start Q.generator)))
-
-  member-opposite : (n : Fin H.table.places) → T.opposite (H.member n) ≡ H.member (H.table.opposite n)
-  member-opposite n = place_cancel T (H.member n) (T.opposite (H.member n)) (H.member (H.table.opposite n))
-      (T.product-opposite (H.member n) ∙ sym (sym (H.member-product n (H.table.opposite n)) ∙ ap H.member (H.table.product-opposite n) ∙ H.member-start))
-
-  coset-sandwich : (e f : ℕ) (x y : Lifted T) (n : Fin H.table.places) → IsInCoset e x.place → IsInCoset f y.place → IsInCoset (e + f) (sandwich T x (H.member n) y).place
-  unfolding sandwich lifted_product opposite_of
-  coset-sandwich e f x y n p q =
-      subst (λ k. IsInCoset k (T.product (T.product (T.product x.place (H.member n)) y.place) (T.opposite (H.member n)))) sizes
-      (subst (λ z. IsInCoset (e + 0 + f + 0) (T.product (T.product (T.product x.place (H.member n)) y.place) z)) (sym (member-opposite n))
-      (coset-product (e + 0 + f) 0 (T.product (T.product x.place (H.member n)) y.place) (H.member (H.table.opposite n))
-      (coset-product (e + 0) f (T.product x.place (H.member n)) y.place (coset-product e 0 x.place (H.member n) p (coset-member n)) q) (coset-member (H.table.opposite n))))
-    where
-      sizes : e + 0 + f + 0 ≡ e + f
-      sizes = omega arith
-
-  -- the index-th power is a member
-  coset-whole : (z : Fin T.places) → IsInCoset Q.index z → (v : Fin H.table.places) × (z ≡ H.member v)
-  coset-whole z (w, p) = (
-    H.table.product Q.top w,
-    p ∙ ap (λ g. T.product g (H.member w)) (lifted_power-place T Q.generator Q.index ∙ Q.power-index) ∙ sym (H.member-product Q.top w),
-  )
-
-  module _ {d : ℕ} (D : Representation H.table d) (E : Representation T d) (extends : (n : Fin H.table.places) → E.at (H.member n) ≡ D.at n)
-      (position : Fin T.places → Fin H.table.places) (at_member : (n : Fin H.table.places) → position (H.member n) ≡ n) where
-    trace-inside : (z : Lifted T) → IsInCoset Q.index z.place → trace (lifted E z) ≡ value_at H (λ k. trace (D.at k)) position z
-    unfolding lifted value_at
-    trace-inside z inside_coset =
-        let v = coset-whole z.place inside_coset in
-        trace-scale R z.number (E.at z.place)
-        ∙ ap (R.mul z.number) (ap trace (ap E.at v.1 ∙ extends v.0) ∙ ap (λ k. trace (D.at k)) (sym (at_member v.0) ∙ ap position (sym v.1)))
-
-module _ (F : Field) {T : FactorSystem F.ring} {H : Subgroup T} (Q : CyclicQuotient H) {d : ℕ} (D : Representation H.table d) (E : Representation T d) (l : 0 < d) (simple : IsSimple D.at)
-    (extends : (n : Fin H.table.places) → E.at (H.member n) ≡ D.at n) (position : Fin T.places → Fin H.table.places) (at_member : (n : Fin H.table.places) → position (H.member n) ≡ n) where
+module _ (F : Field) {T : FactorSystem F.ring} {H : Subgroup T} (Q : CyclicQuotient H) {d : ℕ} (D : Representation H.table d) (E : Representation T d)
+    (l : 0 < d) (simple : IsSimple D.at) (extends : (n : Fin H.table.places) → E.at (H.member n) ≡ D.at n)
+    (position : Fin T.places → Fin H.table.places) (at_member : (n : Fin H.table.places) → position (H.member n) ≡ n) where
   open F use {ring as R}
 
   pub product_of_two : Q.index ≡ 2 → (n m : Fin H.table.places)
@@ -108,8 +57,10 @@ module _ (F : Field) {T : FactorSystem F.ring} {H : Subgroup T} (Q : CyclicQuoti
 
   pub product_of_three : Q.index ≡ 3 → (n m : Fin H.table.places)
       → R.mul (R.mul (whole R H.table.places) (whole R H.table.places))
-      (R.mul (trace (E.at (T.product Q.generator (H.member n)))) (R.mul (trace (E.at (T.product Q.generator (H.member m)))) (trace (E.at (T.product Q.generator (H.member m))))))
-      ≡ R.mul (R.mul (whole R d) (whole R d)) (three_sum H (λ k. trace (D.at k)) position (T.product Q.generator (H.member n)) (T.product Q.generator (H.member m)))
+      (R.mul (trace (E.at (T.product Q.generator (H.member n))))
+      (R.mul (trace (E.at (T.product Q.generator (H.member m)))) (trace (E.at (T.product Q.generator (H.member m))))))
+      ≡ R.mul (R.mul (whole R d) (whole R d)) (three_sum H (λ k. trace (D.at k)) position
+      (T.product Q.generator (H.member n)) (T.product Q.generator (H.member m)))
   unfolding three_sum
   product_of_three three n m =
       ap (R.mul (R.mul h h)) (ap₂ (λ a b. R.mul a (R.mul b b)) (ap trace (sym (lifted-bare E x))) (ap trace (sym (lifted-bare E y))))
@@ -119,8 +70,10 @@ module _ (F : Field) {T : FactorSystem F.ring} {H : Subgroup T} (Q : CyclicQuoti
       ∙ ap (R.mul (whole R d)) (mul-sum R H.table.places (R.mul h (trace (lifted E X))) (λ i. trace (lifted E (inner i)))
       ∙ sum-ext R H.table.places (λ i. R.mul (R.mul h (trace (lifted E X))) (trace (lifted E (inner i))))
       (λ i. R.mul (whole R d) (sum R H.table.places (λ j. value_at H (λ k. trace (D.at k)) position (sandwich T X (H.member j) (inner i))))) outer
-      ∙ sym (mul-sum R H.table.places (whole R d) (λ i. sum R H.table.places (λ j. value_at H (λ k. trace (D.at k)) position (sandwich T X (H.member j) (inner i))))))
-      ∙ sym (R.mul_assoc (whole R d) (whole R d) (sum R H.table.places (λ i. sum R H.table.places (λ j. value_at H (λ k. trace (D.at k)) position (sandwich T X (H.member j) (inner i))))))
+      ∙ sym (mul-sum R H.table.places (whole R d)
+      (λ i. sum R H.table.places (λ j. value_at H (λ k. trace (D.at k)) position (sandwich T X (H.member j) (inner i))))))
+      ∙ sym (R.mul_assoc (whole R d) (whole R d)
+      (sum R H.table.places (λ i. sum R H.table.places (λ j. value_at H (λ k. trace (D.at k)) position (sandwich T X (H.member j) (inner i))))))
     where
       h : R.Carrier
       h = whole R H.table.places

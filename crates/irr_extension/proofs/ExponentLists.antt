@@ -1,7 +1,7 @@
 -- Lists of exponents that come from indices.
 --   indices_of: each exponent of a list that occurs has an index, so the list is one of indices
 --   times-exponents: an index stands in its list as often as its exponent in that list
-use Rattle.std.proofs.Common.{◌≡◌, sym, ◌∙◌, ap, ap₂, refl, ℕ, ◌<◌, ◌+◌, ◌⊎◌, inl, inr, List, [], ◌∷◌, arith}
+use Rattle.std.proofs.Common.{◌≡◌, sym, ◌∙◌, ap, ap₂, refl, ℕ, ◌+◌, ◌⊎◌, inl, inr, List, [], ◌∷◌, arith}
 use Rattle.std.specs.Prelude.{cond, nat_eq, true, false, Bool}
 use Rattle.std.specs.List.{AllByRecursion}
 use Rattle.std.proofs.lemmas.List.Sums.{sum_by-cons}
@@ -43,16 +43,17 @@ module _ {k : ℕ} (exponent : Fin k → ℕ) where
   exponents_of [] = []
   exponents_of (a ∷ l) = exponent a ∷ exponents_of l
 
-  pub indices_of : (order : ℕ) (es : List ℕ) → AllByRecursion (λ e. e < order) es
-      → ((e : ℕ) → e < order → (times_in e es ≡ 0 → ⊥) → (a : Fin k) × (exponent a ≡ e)) → (l : List (Fin k)) × (exponents_of l ≡ es)
+  pub indices_of : (P : ℕ → Type 0) (es : List ℕ) → AllByRecursion P es
+      → ((e : ℕ) → P e → (times_in e es ≡ 0 → ⊥) → (a : Fin k) × (exponent a ≡ e)) → (l : List (Fin k)) × (exponents_of l ≡ es)
   unfolding exponents_of
-  indices_of order [] below found = ([], refl)
-  indices_of order (e ∷ es) below found =
-      let a = found e below.0 (times_in-here e es) in
-      let l = indices_of order es below.1 (λ f small ne. found f small (times_in-later f e es ne)) in
+  indices_of P [] each found = ([], refl)
+  indices_of P (e ∷ es) each found =
+      let a = found e each.0 (times_in-here e es) in
+      let l = indices_of P es each.1 (λ f h ne. found f h (times_in-later f e es ne)) in
       (a.0 ∷ l.0, ap₂ (λ f fs. f ∷ fs) a.1 l.1)
 
-  pub times-exponents : ((a b : Fin k) → exponent a ≡ exponent b → a ≡ b) → (a : Fin k) (l : List (Fin k)) → occurrences a l ≡ times_in (exponent a) (exponents_of l)
+  pub times-exponents : ((a b : Fin k) → exponent a ≡ exponent b → a ≡ b) → (a : Fin k) (l : List (Fin k))
+      → occurrences a l ≡ times_in (exponent a) (exponents_of l)
   unfolding exponents_of occurrences one_more
   times-exponents injective a [] = refl
   times-exponents injective a (b ∷ l) = one (same_or_not b a) (times-exponents injective a l) ∙ sym (times_in-cons (exponent a) (exponent b) (exponents_of l))

@@ -51,19 +51,21 @@ shift_by_rest b j m p =
     omega (arith, split, both, rest)
 
 -- the order by the index of the cycle
-order_split : (order n q m p : ℕ) → order ≡ n * q → n ≡ suc m * p → order ≡ suc m * q * p
+pub order_split : (order n q m p : ℕ) → order ≡ n * q → n ≡ suc m * p → order ≡ suc m * q * p
 order_split order n q m p e f = e ∙ ap (λ a. a * q) f ∙ Nat.mul_assoc (suc m) p q ∙ ap (λ a. suc m * a) (Nat.mul_comm p q) ∙ sym (Nat.mul_assoc (suc m) q p)
 
-positive-product : (m q : ℕ) → 0 < q → 0 < suc m * q
+pub positive-product : (m q : ℕ) → 0 < q → 0 < suc m * q
 positive-product m q h = let e = Nat.suc-mul m q in omega (arith, e, h)
 
 -- powers of z
 
 power_by_rest : (R : Ring) (z : R.Carrier) (order a b k : ℕ) → power R z order ≡ R.one → a ≡ b + k * order → power R z a ≡ power R z b
 power_by_rest R z order a b k one e =
-    ap (power R z) e ∙ power-add R z b (k * order) ∙ ap (R.mul (power R z b)) (power-mul R z k order ∙ ap (λ x. power R x k) one ∙ one-power R k) ∙ R.mul-one (power R z b)
+    ap (power R z) e ∙ power-add R z b (k * order) ∙ ap (R.mul (power R z b)) (power-mul R z k order ∙ ap (λ x. power R x k) one ∙ one-power R k)
+    ∙ R.mul-one (power R z b)
 
-primitive_inj_below : (F : Field) (order : ℕ) (z : F.Carrier) → IsPrimitiveRoot F.ring order z → (a b : ℕ) → a < order → b < order → power F.ring z a ≡ power F.ring z b → a ≡ b
+primitive_inj_below : (F : Field) (order : ℕ) (z : F.Carrier) → IsPrimitiveRoot F.ring order z → (a b : ℕ) → a < order → b < order
+    → power F.ring z a ≡ power F.ring z b → a ≡ b
 primitive_inj_below F order z primitive a b la lb e =
     sym (to_nat-from_nat order a la)
     ∙ ap to_nat (primitive_inj F order z primitive (from_nat order a la) (from_nat order b lb)
@@ -71,7 +73,7 @@ primitive_inj_below F order z primitive a b la lb e =
     ∙ to_nat-from_nat order b lb
 
 -- a sum over indices as one over their exponents
-sum_by_exponents : (R : Ring) {k p : ℕ} (z : R.Carrier) (m : ℕ) (exponent : Fin k → ℕ) (root : Fin k → Fin p → R.Carrier)
+pub sum_by_exponents : (R : Ring) {k p : ℕ} (z : R.Carrier) (m : ℕ) (exponent : Fin k → ℕ) (root : Fin k → Fin p → R.Carrier)
     → ((a : Fin k) → exponent a / p * p ≡ exponent a) → ((a : Fin k) (j : Fin p) → (i : Fin p) × (root a j ≡ power R z (exponent a / p + to_nat i * m)))
     → (l : List (Fin k)) (s : R.Carrier) → AddsUp R root l s → AddsUpRoots R z p m (exponents_of exponent l) s
 unfolding AddsUp AddsUpRoots exponents_of
@@ -85,17 +87,19 @@ module _ {R : Ring} {T : FactorSystem R} {x : Fin T.places} (cycle : Cycle T x) 
   abbrev pub exponent_at : Fin (suc m) → ℕ
   exponent_at a = (y + to_nat a * q) % (suc m * q) * p
 
-  exponent-value : (a : Fin (suc m)) → power R (cycle_numbers cycle (suc m) a) p ≡ power R z (exponent_at a)
+  pub exponent-value : (a : Fin (suc m)) → power R (cycle_numbers cycle (suc m) a) p ≡ power R z (exponent_at a)
   exponent-value a =
       ap (λ x. power R x p) (ap₂ R.mul number (ap (λ x. power R x (to_nat a)) root ∙ sym (power-mul R z (to_nat a) q)) ∙ sym (power-add R z y (to_nat a * q)))
       ∙ sym (power-mul R z p (y + to_nat a * q))
-      ∙ power_by_rest R z (suc m * q * p) (p * (y + to_nat a * q)) (exponent_at a) ((y + to_nat a * q) / (suc m * q)) one (times_by_rest (y + to_nat a * q) (suc m * q) p)
+      ∙ power_by_rest R z (suc m * q * p) (p * (y + to_nat a * q)) (exponent_at a)
+      ((y + to_nat a * q) / (suc m * q)) one (times_by_rest (y + to_nat a * q) (suc m * q) p)
 
   exponent-divided : (a : Fin (suc m)) → exponent_at a / p ≡ (y + to_nat a * q) % (suc m * q)
   exponent-divided a = Nat.mul-div_cancel ((y + to_nat a * q) % (suc m * q)) p-pos
 
   root-choice : (a : Fin (suc m)) (j : Fin p)
-      → (i : Fin p) × (R.mul (cycle_numbers cycle (suc m) a) (power R (power R cycle.root (suc m)) (to_nat j)) ≡ power R z (exponent_at a / p + to_nat i * (suc m * q)))
+      → (i : Fin p) × (R.mul (cycle_numbers cycle (suc m) a) (power R (power R cycle.root (suc m)) (to_nat j))
+      ≡ power R z (exponent_at a / p + to_nat i * (suc m * q)))
   root-choice a j =
       let b : ℕ = y + to_nat a * q in
       let c : ℕ = b / (suc m * q) + to_nat j in
@@ -103,14 +107,16 @@ module _ {R : Ring} {T : FactorSystem R} {x : Fin T.places} (cycle : Cycle T x) 
         from_nat p (c % p) small,
         cycle-powers cycle z q y number root (suc m) a (to_nat j)
             ∙ ap (λ k. power R z (b + k)) (Nat.mul_assoc (to_nat j) (suc m) q)
-            ∙ power_by_rest R z (suc m * q * p) (b + to_nat j * (suc m * q)) (b % (suc m * q) + c % p * (suc m * q)) (c / p) one (shift_by_rest b (to_nat j) (suc m * q) p)
+            ∙ power_by_rest R z (suc m * q * p) (b + to_nat j * (suc m * q)) (b % (suc m * q) + c % p * (suc m * q))
+            (c / p) one (shift_by_rest b (to_nat j) (suc m * q) p)
             ∙ ap₂ (λ k i. power R z (k + i * (suc m * q))) (sym (exponent-divided a)) (sym (to_nat-from_nat p (c % p) small)),
       )
 
 module _ (F : Field) where
   open F use {ring as R}
 
-  pub exponent_sum_of_roots : {S T : FactorSystem R} (part : Subtable S T) {d : ℕ} (E : Representation T d) (x : Fin T.places) (p : ℕ) (top : Fin S.places) → 0 < p
+  pub exponent_sum_of_roots : {S T : FactorSystem R} (part : Subtable S T) {d : ℕ} (E : Representation T d) (x : Fin T.places) (p : ℕ)
+      (top : Fin S.places) → 0 < p
       → part.place top ≡ (lifted_power (at_place T x) p).place → IsOutside part x p
       → (order : ℕ) (z : R.Carrier) (exponent : Fin T.places → Fin T.places → ℕ) (n q y : ℕ) → HasExponents T order z exponent → 0 < n → 0 < q → order ≡ n * q
       → (lifted_power (at_place T x) n).place ≡ T.start → exponent_sum T exponent x n ≡ n * y
@@ -156,7 +162,8 @@ module _ (F : Field) where
       value = exponent-value cycle z q y m p made.2 made.3 pos one
 
       exponent-below : (a : Fin (suc m)) → index_exponent a < order
-      exponent-below a = subst (λ k. index_exponent a < k) (sym whole_order) (Nat.mul-lt-mul_of_pos_right (Nat.mod-lt (y + to_nat a * q) (positive-product m q q-pos)) pos)
+      exponent-below a = subst (λ k. index_exponent a < k) (sym whole_order)
+          (Nat.mul-lt-mul_of_pos_right (Nat.mod-lt (y + to_nat a * q) (positive-product m q q-pos)) pos)
 
       h : IsStep part (restricted part E) x p R.one (E.at x)
       h = family-step part E x p top in-s
@@ -180,7 +187,7 @@ module _ (F : Field) where
               (a.0, primitive_inj_below F order z has.primitive (index_exponent a.0) e (exponent-below a.0) l (sym (value a.0) ∙ a.1))
 
       l : (l : List (Fin (suc m))) × (exponents_of index_exponent l ≡ es)
-      l = indices_of index_exponent order es (recursion_from_All (λ e. e < order) es below) found
+      l = indices_of index_exponent (λ e. e < order) es (recursion_from_All (λ e. e < order) es below) found
 
       occurs_at : (a : Fin (suc m)) → Occurs (top_matrix T (restricted part E) x p top) (power R (cycle_numbers cycle (suc m) a) p) (occurrences a l.0)
       occurs_at a =

@@ -1,7 +1,10 @@
 -- What the traces of an extension at the coset of the generator are.
 --   some_trace_of_extension: they are not all 0
 --   traces_forced: their products with the powers of one of them tell them up to a root of 1
-use Rattle.std.proofs.Common.{◌≡◌, sym, ◌∙◌, ap, refl, ℕ, zero, suc, ◌<◌}
+--   some_two, some_three: nor are the sums of the character of the subgroup that are their powers
+--   forced_by_two, forced_by_three: these sums tell them up to a root of 1 too
+use Rattle.std.proofs.Common.{◌≡◌, sym, ◌∙◌, ap, ap₂, refl, ℕ, zero, suc, ◌<◌}
+use Rattle.irr_algebra.specs.Ring.{whole}
 use Rattle.irr_algebra.specs.Field.{Field}
 use Rattle.irr_algebra.specs.Fin.{Fin}
 use Rattle.irr_algebra.specs.Matrix.{Matrix, ◌·◌, scale, trace}
@@ -10,14 +13,18 @@ use Rattle.irr_algebra.proofs.Rings.{mul-zero, mul_left_comm, zero-mul}
 use Rattle.irr_algebra.proofs.Fields.{inverse-mul, mul-ne-zero, mul_cancel, one-ne-zero}
 use Rattle.irr_algebra.proofs.Matrices.{scale-mul, trace-scale}
 use Rattle.irr_theory.specs.FactorSystem.{FactorSystem, Representation}
+use Rattle.irr_theory.proofs.Inverses.{places-ne-zero}
 use Rattle.irr_clifford.specs.Subgroup.{Subgroup}
 use Rattle.irr_clifford.specs.Cyclic.{CyclicQuotient, StandsForGenerator}
 use Rattle.irr_clifford.specs.FromTraces.{AreExtensionTraces, generator_from_traces}
 use Rattle.irr_clifford.specs.Roots.{number_power}
 use Rattle.irr_clifford.proofs.ExtensionTraces.{extension_of_traces, stands_of_traces, traces_of_stands}
 use Rattle.irr_clifford.proofs.Roots.{extension-coset, number_power-mul, number_power-one, some_trace, stands-ne-null, stands_times_root}
+use Rattle.irr_extension.specs.Product.{three_sum, two_sum}
+use Rattle.irr_extension.proofs.CosetProducts.{product_of_three, product_of_two}
 
-module _ (F : Field) {T : FactorSystem F.ring} {H : Subgroup T} (Q : CyclicQuotient H) {d : ℕ} (D : Representation H.table d) (l : 0 < d) (simple : IsSimple D.at)
+module _ (F : Field) {T : FactorSystem F.ring} {H : Subgroup T} (Q : CyclicQuotient H) {d : ℕ} (D : Representation H.table d) (l : 0 < d)
+    (simple : IsSimple D.at)
     (t : Fin H.table.places → F.Carrier) (extension : AreExtensionTraces Q D t) where
   open F use {ring as R}
 
@@ -86,3 +93,64 @@ module _ (F : Field) {T : FactorSystem F.ring} {H : Subgroup T} (Q : CyclicQuoti
     traces_forced = traces_of_stands Q D (scale R root u) (stands_times_root Q D u root stands root-power) s (λ n.
         ap (R.mul (T.phase Q.generator (H.member n))) (sym (root-times n)) ∙ mul_left_comm R (T.phase Q.generator (H.member n)) root (t n)
         ∙ ap (R.mul root) (trace-member n) ∙ sym (ap trace (scale-mul R root u (D.at n)) ∙ trace-scale R root (u · D.at n)))
+
+module _ (F : Field) {T : FactorSystem F.ring} {H : Subgroup T} (Q : CyclicQuotient H) {d : ℕ} (D : Representation H.table d) (l : 0 < d)
+    (simple : IsSimple D.at) (t : Fin H.table.places → F.Carrier) (extension : AreExtensionTraces Q D t)
+    (position : Fin T.places → Fin H.table.places) (at_member : (n : Fin H.table.places) → position (H.member n) ≡ n) where
+  open F use {ring as R}
+
+  -- the number of members, and the sums of the character
+  abbrev h : R.Carrier
+  h = whole R H.table.places
+
+  abbrev two : (n m : Fin H.table.places) → R.Carrier
+  two n m = two_sum H (λ k. trace (D.at k)) position (T.product Q.generator (H.member n)) (T.product Q.generator (H.member m))
+
+  abbrev three : (n m : Fin H.table.places) → R.Carrier
+  three n m = three_sum H (λ k. trace (D.at k)) position (T.product Q.generator (H.member n)) (T.product Q.generator (H.member m))
+
+  h-ne : h ≡ R.zero → ⊥
+  h-ne = places-ne-zero F H.table
+
+  traces-two : Q.index ≡ 2 → (n m : Fin H.table.places) → R.mul h (R.mul (t n) (t m)) ≡ R.mul (whole R d) (two n m)
+  traces-two index n m = ap₂ (λ a b. R.mul h (R.mul a b)) (sym (extension.trace-coset n)) (sym (extension.trace-coset m))
+      ∙ product_of_two F Q D extension.family l simple extension.at-member position at_member index n m
+
+  traces-three : Q.index ≡ 3 → (n m : Fin H.table.places)
+      → R.mul (R.mul h h) (R.mul (t n) (R.mul (t m) (t m))) ≡ R.mul (R.mul (whole R d) (whole R d)) (three n m)
+  traces-three index n m = ap₂ (λ a b. R.mul (R.mul h h) (R.mul a (R.mul b b))) (sym (extension.trace-coset n)) (sym (extension.trace-coset m))
+      ∙ product_of_three F Q D extension.family l simple extension.at-member position at_member index n m
+
+  -- where a trace is not 0, neither is the sum
+  pub some_two : Q.index ≡ 2 → (m : Fin H.table.places) × (two m m ≡ R.zero → ⊥)
+  some_two index =
+      let m = some_trace_of_extension F Q D l simple t extension in (
+        m.0,
+        λ z. mul-ne-zero F h (R.mul (t m.0) (t m.0)) h-ne (mul-ne-zero F (t m.0) (t m.0) m.1 m.1)
+            (traces-two index m.0 m.0 ∙ ap (R.mul (whole R d)) z ∙ mul-zero R (whole R d)),
+      )
+
+  pub some_three : Q.index ≡ 3 → (m : Fin H.table.places) × (three m m ≡ R.zero → ⊥)
+  some_three index =
+      let m = some_trace_of_extension F Q D l simple t extension in (
+        m.0,
+        λ z. mul-ne-zero F (R.mul h h) (R.mul (t m.0) (R.mul (t m.0) (t m.0))) (mul-ne-zero F h h h-ne h-ne)
+            (mul-ne-zero F (t m.0) (R.mul (t m.0) (t m.0)) m.1 (mul-ne-zero F (t m.0) (t m.0) m.1 m.1))
+            (traces-three index m.0 m.0 ∙ ap (R.mul (R.mul (whole R d) (whole R d))) z ∙ mul-zero R (R.mul (whole R d) (whole R d))),
+      )
+
+  module _ (s : Fin H.table.places → R.Carrier) (m : Fin H.table.places) (s-ne : s m ≡ R.zero → ⊥) where
+    pub forced_by_two : Q.index ≡ 2 → ((n : Fin H.table.places) → R.mul h (R.mul (s n) (s m)) ≡ R.mul (whole R d) (two n m)) → AreExtensionTraces Q D s
+    unfolding number_power
+    forced_by_two index same = traces_forced F Q D l simple t extension s m s-ne 1 index (λ n.
+        ap (R.mul (s n)) (R.mul-one (s m))
+        ∙ mul_cancel F h (R.mul (s n) (s m)) (R.mul (t n) (t m)) h-ne (same n ∙ sym (traces-two index n m)) ∙ sym (ap (R.mul (t n)) (R.mul-one (t m))))
+
+    pub forced_by_three : Q.index ≡ 3
+        → ((n : Fin H.table.places) → R.mul (R.mul h h) (R.mul (s n) (R.mul (s m) (s m))) ≡ R.mul (R.mul (whole R d) (whole R d)) (three n m))
+        → AreExtensionTraces Q D s
+    unfolding number_power
+    forced_by_three index same = traces_forced F Q D l simple t extension s m s-ne 2 index (λ n.
+        ap (λ a. R.mul (s n) (R.mul (s m) a)) (R.mul-one (s m))
+        ∙ mul_cancel F (R.mul h h) (R.mul (s n) (R.mul (s m) (s m))) (R.mul (t n) (R.mul (t m) (t m))) (mul-ne-zero F h h h-ne h-ne)
+        (same n ∙ sym (traces-three index n m)) ∙ sym (ap (λ a. R.mul (t n) (R.mul (t m) a)) (R.mul-one (t m))))

@@ -3,5 +3,11 @@ pub mod Presence
 pub mod ExponentLists
 pub mod ExponentSums
 pub mod Products
+pub mod Cosets
 pub mod CosetProducts
 pub mod Forced
+pub mod CosetSums
+pub mod UnitPowers
+pub mod CharacterSums
+pub mod PlaceCharacters
+pub mod Example

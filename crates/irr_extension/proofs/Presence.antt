@@ -45,8 +45,10 @@ module _ (F : Field) where
           ∙ mul_assoc (e.projection a) v o.basis ∙ ap (λ (m : Matrix R d (suc n)). e.projection a · m) o.eigen ∙ mul-scale R x (e.projection a) o.basis)
 
       none : ((a : Fin k) → values a ≡ x → ⊥) → o.basis ≡ null
-      none h = sym (unit-mul o.basis) ∙ ap (λ (m : Matrix R d d). m · o.basis) (sym e.adds_up) ∙ total-mul k e.projection o.basis ∙ total-null k (λ a. apart a (h a))
+      none h = sym (unit-mul o.basis) ∙ ap (λ (m : Matrix R d d). m · o.basis) (sym e.adds_up) ∙ total-mul k e.projection o.basis
+          ∙ total-null k (λ a. apart a (h a))
 
       cases : ((a : Fin k) → values a ≡ x → ⊥) ⊎ ((a : Fin k) × (values a ≡ x)) → (a : Fin k) × (values a ≡ x)
-      cases (inl h) = absurd (ones-ne-null n (o.independent.only_zero (ones (suc n)) (ap (λ (m : Matrix R d (suc n)). m · ones (suc n)) (none h) ∙ null-mul (ones (suc n)))))
+      cases (inl h) = absurd (ones-ne-null n (o.independent.only_zero (ones (suc n)) (ap (λ (m : Matrix R d (suc n)). m · ones (suc n)) (none h)
+          ∙ null-mul (ones (suc n)))))
       cases (inr r) = r

@@ -2,6 +2,7 @@
 --   lifted-sandwich: the matrix at x n y n^-1
 --   product_of_traces: h tr E(x) tr E(y) is d times the sum of tr E(x n y n^-1)
 use Rattle.std.proofs.Common.{◌≡◌, sym, ◌∙◌, ap, ap₂, refl, ℕ, ◌<◌}
+use mathlib.Core.Path.{fun_ext}
 use Rattle.irr_algebra.specs.Ring.{Ring, whole}
 use Rattle.irr_algebra.specs.Field.{Field}
 use Rattle.irr_algebra.specs.Fin.{Fin}
@@ -40,14 +41,17 @@ module _ {R : Ring} {T : FactorSystem R} {d : ℕ} (E : Representation T d) wher
       (lifted-opposite n)
       ∙ ap (λ (a : Matrix R d d). a · back E n) (mul_assoc (lifted E x) (E.at n) (lifted E y)) ∙ mul_assoc (lifted E x) (E.at n · lifted E y) (back E n)
 
-module _ (F : Field) {T : FactorSystem F.ring} (H : Subgroup T) {d : ℕ} (D : Representation H.table d) (E : Representation T d) (l : 0 < d) (simple : IsSimple D.at)
+module _ (F : Field) {T : FactorSystem F.ring} (H : Subgroup T) {d : ℕ} (D : Representation H.table d) (E : Representation T d) (l : 0 < d)
+    (simple : IsSimple D.at)
     (extends : (n : Fin H.table.places) → E.at (H.member n) ≡ D.at n) where
   open F use {ring as R}
 
   back-member : (n : Fin H.table.places) → back E (H.member n) ≡ back D n
   back-member n =
-      sym (mul-unit (back E (H.member n))) ∙ ap (λ (a : Matrix R d d). back E (H.member n) · a) (sym (mul-back D n) ∙ ap (λ (a : Matrix R d d). a · back D n) (sym (extends n)))
-      ∙ sym (mul_assoc (back E (H.member n)) (E.at (H.member n)) (back D n)) ∙ ap (λ (a : Matrix R d d). a · back D n) (back-mul E (H.member n)) ∙ unit-mul (back D n)
+      sym (mul-unit (back E (H.member n))) ∙ ap (λ (a : Matrix R d d). back E (H.member n) · a) (sym (mul-back D n)
+      ∙ ap (λ (a : Matrix R d d). a · back D n) (sym (extends n)))
+      ∙ sym (mul_assoc (back E (H.member n)) (E.at (H.member n)) (back D n)) ∙ ap (λ (a : Matrix R d d). a · back D n) (back-mul E (H.member n))
+      ∙ unit-mul (back D n)
 
   -- the matrices x D(n) y D(n)^-1, added up
   sandwich-total : (x y : Matrix R d d) → sum R H.table.places (λ n. trace (x · (D.at n · y · back D n)))
@@ -70,7 +74,19 @@ module _ (F : Field) {T : FactorSystem F.ring} (H : Subgroup T) {d : ℕ} (D : R
   pub product_of_traces : (x y : Lifted T) → R.mul (whole R H.table.places) (R.mul (trace (lifted E x)) (trace (lifted E y)))
       ≡ R.mul (whole R d) (sum R H.table.places (λ n. trace (lifted E (sandwich T x (H.member n) y))))
   product_of_traces x y =
-      size_out (whole R d) (whole R H.table.places) (trace (lifted E x)) (trace (lifted E y)) (F.inverse (whole R d)) (F.mul-inverse (whole R d) (whole-ne-zero F d l))
+      size_out (whole R d) (whole R H.table.places) (trace (lifted E x)) (trace (lifted E y)) (F.inverse (whole R d))
+      (F.mul-inverse (whole R d) (whole-ne-zero F d l))
       ∙ ap (R.mul (whole R d)) (sym (sandwich-total (lifted E x) (lifted E y))
       ∙ sum-ext R H.table.places (λ n. trace (lifted E x · (D.at n · lifted E y · back D n))) (λ n. trace (lifted E (sandwich T x (H.member n) y))) (λ n.
-      ap trace (ap₂ (λ (a b : Matrix R d d). lifted E x · (a · lifted E y · b)) (sym (extends n)) (sym (back-member n)) ∙ sym (lifted-sandwich E x (H.member n) y))))
+      ap trace (ap₂ (λ (a b : Matrix R d d). lifted E x · (a · lifted E y · b)) (sym (extends n)) (sym (back-member n))
+      ∙ sym (lifted-sandwich E x (H.member n) y))))
+
+  pub product_at_places : (x y : Fin T.places) → R.mul (whole R H.table.places) (R.mul (trace (E.at x)) (trace (E.at y)))
+      ≡ R.mul (whole R d) (sum R H.table.places (λ n. R.mul
+      (sandwich T (at_place T x) (H.member n) (at_place T y)).number (trace (E.at (sandwich T (at_place T x) (H.member n) (at_place T y)).place))))
+  unfolding lifted
+  product_at_places x y =
+      ap₂ (λ a b. R.mul (whole R H.table.places) (R.mul (trace a) (trace b))) (sym (lifted-bare E x)) (sym (lifted-bare E y))
+      ∙ product_of_traces (at_place T x) (at_place T y)
+      ∙ ap (R.mul (whole R d)) (ap (sum R H.table.places) (fun_ext (λ n.
+      trace-scale R (sandwich T (at_place T x) (H.member n) (at_place T y)).number (E.at (sandwich T (at_place T x) (H.member n) (at_place T y)).place))))

@@ -18,7 +18,7 @@ use Rattle.irr_eigen.proofs.ListSums.{list-sum}
 use Rattle.irr_eigen.proofs.Powers.{one-power}
 use Rattle.irr_eigen.proofs.Steps.{step-different, step-matrix_root, step-primitive}
 
-list_sum_of : (R : Ring) {k : ℕ} (p : ℕ) (z : R.Carrier) (w : Fin k → R.Carrier) (times : Fin k → ℕ) (s : R.Carrier) → 0 < p → IsSumOfRoots R p z w times s
+pub list_sum_of : (R : Ring) {k : ℕ} (p : ℕ) (z : R.Carrier) (w : Fin k → R.Carrier) (times : Fin k → ℕ) (s : R.Carrier) → 0 < p → IsSumOfRoots R p z w times s
     → (l : List (Fin k)) → ((a : Fin k) → occurrences a l ≡ times a) → AddsUp R (λ a (j : Fin p). R.mul (w a) (power R z (to_nat j))) l s
 list_sum_of R zero z w times s pos h l counts = absurd (omega arith)
 list_sum_of R (suc p) z w times s pos h l counts = list-sum R p z w times s h l counts

@@ -1,2 +1,4 @@
 pub mod Product
 pub mod Exponents
+pub mod Coset
+pub mod Occurrence

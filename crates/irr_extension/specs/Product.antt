@@ -12,7 +12,7 @@ use Rattle.irr_theory.specs.Lifted.{Lifted, lifted_product}
 use Rattle.irr_eigen.specs.Step.{at_place}
 use Rattle.irr_clifford.specs.Subgroup.{Subgroup}
 
--- the inverse of n with the number 1
+-- the inverse of the lifted place n, whose number is 1
 unfoldable pub opposite_of : {R : Ring} (T : FactorSystem R) → Fin T.places → Lifted T
 opposite_of T n = record { number = (T.phase-invertible n (T.opposite n)).inverse; place = T.opposite n }
 
@@ -21,7 +21,8 @@ unfoldable pub sandwich : {R : Ring} (T : FactorSystem R) → Lifted T → Fin T
 sandwich T x n y = lifted_product (lifted_product (lifted_product x (at_place T n)) y) (opposite_of T n)
 
 -- the number times the character of the subgroup at the member that stands at the place
-unfoldable pub value_at : {R : Ring} {T : FactorSystem R} (H : Subgroup T) → (Fin H.table.places → R.Carrier) → (Fin T.places → Fin H.table.places) → Lifted T → R.Carrier
+unfoldable pub value_at : {R : Ring} {T : FactorSystem R} (H : Subgroup T) → (Fin H.table.places → R.Carrier) → (Fin T.places → Fin H.table.places)
+    → Lifted T → R.Carrier
 value_at {R} H character position z = R.mul z.number (character (position z.place))
 
 -- for two places outside a subgroup of index 2

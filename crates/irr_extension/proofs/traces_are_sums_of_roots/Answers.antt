@@ -13,4 +13,5 @@ returns-clause-by_index g c = λ S T part d E x p top two_or_three in_s outside 
 
 pub returns-clause-by_exponent : goal.returns-clause-by_exponent
 returns-clause-by_exponent g c = λ S T part d E x p top two_or_three in_s outside order z exponent n q y has n_pos q_pos split back sum es below occurs.
-    exponent_sum_of_roots g.N.InField.field part E x p top (two_or_three-pos p two_or_three) in_s outside order z exponent n q y has n_pos q_pos split back sum es below occurs
+    exponent_sum_of_roots g.N.InField.field part E x p top (two_or_three-pos p two_or_three) in_s outside
+    order z exponent n q y has n_pos q_pos split back sum es below occurs
