@@ -8,5 +8,6 @@ pub mod Members
 pub mod Restrictions
 pub mod Subtables
 pub mod Families
+pub mod TraceRoots
 pub mod Listed
 pub mod Trials

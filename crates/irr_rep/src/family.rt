@@ -1,8 +1,10 @@
 //! Families of matrices on the places of a table of phases.
-ghost use Rattle.std.specs.Prelude.{ℕ, ◌≡◌};
+ghost use Rattle.std.specs.Prelude.{ℕ, ◌≡◌, ◌<◌};
 ghost use Rattle.std.specs.Int.{◌∣◌};
 ghost use Rattle.irr_algebra.specs.Fin.{Fin};
+ghost use Rattle.irr_algebra.specs.Matrix.{trace};
 ghost use Rattle.irr_theory.specs.FactorSystem.{Representation};
+ghost use Rattle.irr_canonical.specs.RootSum.{IsRootSum};
 ghost use Rattle.irr_space.specs.PhaseTable.{PhaseTable, phases_at, phases_over};
 ghost use Rattle.irr_space.specs.CompleteList.{over};
 
@@ -34,4 +36,10 @@ pub fn representations_at_own_order()
         → (B : Representation (phases_at T) d) × ((i : Fin h) → B.at i ≡ A.at i) }
     ensures to_lifted { (h : ℕ) (T : PhaseTable h) (v : T.order ∣ T.order) (d : ℕ) (A : Representation (phases_at T) d)
         → (i : Fin h) → (over T T.order v A).at i ≡ A.at i }
+{}
+
+/// The trace of a small representation of d rows is, at each place, a sum of d powers of z.
+pub fn traces_of_representations()
+    ensures { (h : ℕ) (T : PhaseTable h) (n : ℕ) (v : T.order ∣ n) → 0 < n → (d : ℕ) (A : Representation (phases_over T n v) d)
+        → (i : Fin h) → IsRootSum n d 1 (trace (A.at i)) }
 {}

@@ -9,7 +9,7 @@ mod subgroup;
 mod table;
 
 pub use cycle::cycles_of_places;
-pub use family::{Defect, Family, representations_at_own_order};
+pub use family::{Defect, Family, representations_at_own_order, traces_of_representations};
 pub use lists::lists_of_tables;
 pub use subgroup::restrictions_are_subtables;
 pub use table::{PLACES_LIMIT, Twisted};
