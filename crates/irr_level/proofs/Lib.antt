@@ -5,3 +5,4 @@ pub mod CyclicLevel
 pub mod Phases
 pub mod RootLaw
 pub mod TableLevels
+pub mod LevelTraces

@@ -6,8 +6,10 @@ mod extension;
 mod quotient;
 mod root;
 mod subgroup;
+mod traces;
 
 pub use extension::extensions_exist;
 pub use quotient::{last_level_is_whole, levels_are_cyclic_quotients};
-pub use root::{phases_of_powers, roots_of_scalars};
+pub use root::{phases_by_exponents, roots_of_scalars};
 pub use subgroup::restrictions_are_subgroups;
+pub use traces::traces_above_level;
