@@ -6,3 +6,5 @@ pub mod Phases
 pub mod RootLaw
 pub mod TableLevels
 pub mod LevelTraces
+pub mod Restricted
+pub mod FullLists
