@@ -5,3 +5,6 @@ pub mod CyclicLevel
 pub mod Phases
 pub mod RootLaw
 pub mod TableLevels
+pub mod LevelTraces
+pub mod Restricted
+pub mod FullLists

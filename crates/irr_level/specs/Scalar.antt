@@ -1,7 +1,8 @@
--- The scalar that a matrix for one more element has, over the numbers of order M.
+-- Phases as numbers of order M, and the scalar that a matrix for one more element has.
 --   phase_number T M x        z^x, for z of the order of T, as a number of order M
+--   conjugate_exponent T n g m    x(n,g) - x(g,m), up to multiples of the order
 --   HasPowerScalar restriction M w g p D u c       u carries D to its conjugate by g, and its p-th power is c z^y D(g^p)
-use Rattle.std.specs.Prelude.{ℕ, ◌≡◌, ◌*◌, ◌/◌, List}
+use Rattle.std.specs.Prelude.{ℕ, ◌≡◌, ◌+◌, ◌*◌, ◌-◌, ◌/◌, List}
 use Rattle.std.specs.Int.{◌∣◌}
 use Rattle.irr_algebra.specs.Fin.{Fin}
 use Rattle.irr_algebra.specs.Matrix.{Matrix, ◌·◌, scale}
@@ -14,6 +15,10 @@ use Rattle.irr_rep.specs.Subgroup.{IsRestriction}
 -- exp(2 pi i x / N) for the order N of the table, among the numbers of order M
 abbrev pub phase_number : {h : ℕ} (T : PhaseTable h) (M : ℕ) → ℕ → (numbers M).Carrier
 phase_number T M x = root_power M (M / T.order * x)
+
+-- x(n,g) - x(g,m) modulo the order, as a natural number
+abbrev pub conjugate_exponent : {h : ℕ} (T : PhaseTable h) (n g m : Fin h) → ℕ
+conjugate_exponent T n g m = T.exponent n g + (T.order - 1) * T.exponent g m
 
 -- for each member n, with n' = g n g^-1, z^x(n',g) u D(n) = z^x(g,n) D(n') u; and u^p = c z^y D(g^p), where y is the sum
 -- of the x(g, g^a) for a below p
