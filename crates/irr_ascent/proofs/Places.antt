@@ -4,7 +4,7 @@
 -- by_last        a fact at the indices before the last and at the last is one at each index
 -- on_last-widen  what on_last has before the last index, and at it
 -- append-left    the first list's members come first, and then the second's
-use Rattle.std.proofs.Common.{◌≡◌, sym, ◌∙◌, ap, refl, ℕ, zero, suc, ◌+◌, arith}
+use Rattle.std.proofs.Common.{◌⊎◌, inl, inr, ◌≡◌, sym, ◌∙◌, ap, refl, ℕ, zero, suc, ◌+◌, arith}
 use Rattle.irr_algebra.specs.Ring.{Ring}
 use Rattle.irr_algebra.specs.Fin.{Fin, to_nat}
 use Rattle.irr_algebra.specs.Fin.Fin.{first, next}
@@ -60,15 +60,29 @@ unfolding on_last last
 on_last-last {n = zero} f a = refl
 on_last-last {n = suc n} f a = on_last-last (λ j. f (next j)) a
 
-to_nat-left : {m : ℕ} (n : ℕ) (i : Fin m) → to_nat (left n i) ≡ to_nat i
+pub to_nat-left : {m : ℕ} (n : ℕ) (i : Fin m) → to_nat (left n i) ≡ to_nat i
 unfolding left to_nat
 to_nat-left n first = refl
 to_nat-left n (next i) = ap suc (to_nat-left n i)
 
-to_nat-right : (m : ℕ) {n : ℕ} (j : Fin n) → to_nat (right m j) ≡ m + to_nat j
+pub to_nat-right : (m : ℕ) {n : ℕ} (j : Fin n) → to_nat (right m j) ≡ m + to_nat j
 unfolding right to_nat
 to_nat-right zero j = omega arith
 to_nat-right (suc m) j = let h = to_nat-right m j in omega arith
+
+pub to_nat-widen : {n : ℕ} (i : Fin n) → to_nat (widen i) ≡ to_nat i
+unfolding widen to_nat
+to_nat-widen first = refl
+to_nat-widen (next i) = ap suc (to_nat-widen i)
+
+pub to_nat-last : (n : ℕ) → to_nat (last {n = n}) ≡ n
+unfolding last to_nat
+to_nat-last zero = refl
+to_nat-last (suc n) = ap suc (to_nat-last n)
+
+-- an index is before the last, or the last
+pub widen_or_last : (n : ℕ) (i : Fin (suc n)) → ((k : Fin n) × (i ≡ widen k)) ⊎ (i ≡ last)
+widen_or_last n = by_last n (λ i. ((k : Fin n) × (i ≡ widen k)) ⊎ (i ≡ last)) (λ k. inl (k, refl)) (inr refl)
 
 module _ {R : Ring} {T : FactorSystem R} (A B : Representations T) where
   pub append-left : (i : Fin A.count) → family (append A B) (left B.count i) ≡ family A i

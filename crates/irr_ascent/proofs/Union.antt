@@ -4,8 +4,9 @@
 -- union_append  with one more list there are its members besides
 -- joined_union  the joined list holds the members of the lists
 -- joined_grown  one list more, joined, is appended
--- of_same       what holds of a family with its size holds of each that is the same
-use Rattle.std.proofs.Common.{◌≡◌, sym, ◌∙◌, ap, ap₂, ℕ, zero, suc}
+-- each_grown    what holds of each list and of one more holds of each of these
+-- union_grown   one list more is appended to a list that holds the members of the others
+use Rattle.std.proofs.Common.{subst, ◌≡◌, sym, ◌∙◌, ap, ap₂, ℕ, zero, suc}
 use mathlib.Core.Path.{fun_ext}
 use Rattle.irr_algebra.specs.Ring.{Ring}
 use Rattle.irr_algebra.specs.Fin.{Fin}
@@ -93,3 +94,13 @@ module _ {R : Ring} {T : FactorSystem R} where
 
   pub joined_grown : (n : ℕ) (over : Fin n → Representations T) (B : Representations T) → joined (suc n) (on_last over B) ≡ append (joined n over) B
   joined_grown n over B = ap₂ (λ (f : Fin n → Representations T) (A : Representations T). append (joined n f) A) (fun_ext (λ l. on_last-widen over B l)) (on_last-last over B)
+
+  -- what holds of each list and of one more holds of each of these
+  pub each_grown : {n : ℕ} (over : Fin n → Representations T) (B : Representations T) (P : Fin (suc n) → Representations T → Type 0)
+      → ((l : Fin n) → P (widen l) (over l)) → P last B → (l : Fin (suc n)) → P l (on_last over B l)
+  each_grown {n} over B P p q = by_last n (λ l. P l (on_last over B l))
+      (λ l. subst (P (widen l)) (sym (on_last-widen over B l)) (p l)) (subst (P last) (sym (on_last-last over B)) q)
+
+  pub union_grown : {n : ℕ} (over : Fin n → Representations T) (M B : Representations T) → IsUnion over M → IsUnion (on_last over B) (append M B)
+  union_grown {n} over M B u = subst (λ (C : Representations T). IsUnion (on_last over B) (append M C)) (on_last-last over B)
+      (union_append (on_last over B) M (subst (λ (f : Fin n → Representations T). IsUnion f M) (fun_ext (λ l. sym (on_last-widen over B l))) u))

@@ -1,0 +1,108 @@
+-- The lists over one member.
+--
+-- induced_of_same   a family with the matrices of an induced one is induced
+-- induced_by_matrix the matrices that are written out are those of an induced family
+-- extension_by_matrix  and those of an extension
+-- extensions_over   the extensions by the multiples of a matrix by the roots of 1 are a list over a fixed member
+-- induced_over      an induced family alone is one over the least of an orbit of several
+-- none_over         no family is one over the others
+use Rattle.std.proofs.Common.{◌≡◌, sym, ◌∙◌, ap, refl, ℕ}
+use mathlib.Core.Path.{fun_ext}
+use Rattle.irr_algebra.specs.Ring.{Ring}
+use Rattle.irr_algebra.specs.Field.{Field}
+use Rattle.irr_algebra.specs.Fin.{Fin, to_nat}
+use Rattle.irr_algebra.specs.Pair.{times}
+use Rattle.irr_algebra.specs.Matrix.{Matrix, ◌·◌, scale, total}
+use Rattle.irr_theory.specs.Extension.{matrix_power}
+use Rattle.irr_theory.specs.FactorSystem.{FactorSystem, Representation}
+use Rattle.irr_theory.specs.Representations.{Representations, IsFull}
+use Rattle.irr_theory.specs.Traces.{back}
+use Rattle.irr_clifford.specs.Subgroup.{Subgroup, restrict}
+use Rattle.irr_clifford.specs.Cyclic.{CyclicQuotient, StandsForGenerator, IsExtension, IsInduced}
+use Rattle.irr_clifford.specs.Formulas.{extension_matrix, induced_matrix}
+use Rattle.irr_clifford.specs.Roots.{RootsOfOne}
+use Rattle.irr_clifford.proofs.ClimbList.{equivalent_of_same}
+use Rattle.irr_clifford.proofs.Extended.{extended, extended-is}
+use Rattle.irr_clifford.proofs.Formulas.{extension-matrix, induced-matrix}
+use Rattle.irr_clifford.proofs.InducedFamily.{induced_family, induced_family-is}
+use Rattle.irr_clifford.proofs.Roots.{stands_times_root, stands-ne-null, multiples_differ}
+use Rattle.irr_ascent.specs.Joined.{listed, none}
+use Rattle.irr_ascent.specs.Over.{AreOver, IsLeastOfOrbit}
+
+module _ {R : Ring} {T : FactorSystem R} {H : Subgroup T} (Q : CyclicQuotient H) {d : ℕ} (D : Representation H.table d) where
+  -- the translates of a block by the powers of the generator, added up
+  abbrev blocks : {e : ℕ} → (Fin T.places → Matrix R e e) → Matrix R e e → Matrix R e e
+  blocks s p = total Q.index (λ a. matrix_power (s Q.generator) (to_nat a) · p
+      · matrix_power (scale R (T.phase-invertible Q.generator (T.opposite Q.generator)).inverse (s (T.opposite Q.generator))) (to_nat a))
+
+  pub induced_of_same : {e : ℕ} (A B : Representation T e) → ((x : Fin T.places) → A.at x ≡ B.at x) → IsInduced Q D A → IsInduced Q D B
+  unfolding back
+  induced_of_same {e} A B s h = record {
+    into = h.into;
+    out = h.out;
+    out-into = h.out-into;
+    member-into = λ n. ap (λ (m : Matrix R e e). m · h.into) (sym (s (H.member n))) ∙ h.member-into n;
+    out-member = λ n. ap (λ (m : Matrix R e e). h.out · m) (sym (s (H.member n))) ∙ h.out-member n;
+    all_blocks = ap (λ (t : Fin T.places → Matrix R e e). blocks t (h.into · h.out)) (fun_ext (λ x. sym (s x))) ∙ h.all_blocks;
+  }
+
+  pub induced_by_matrix : (E : Representation T (times Q.index d)) → ((x : Fin T.places) → E.at x ≡ induced_matrix Q D x) → IsInduced Q D E
+  induced_by_matrix E s = induced_of_same (induced_family Q D) E (λ x. induced-matrix Q D x ∙ sym (s x)) (induced_family-is Q D)
+
+  pub extension_by_matrix : (u : Matrix R d d) → StandsForGenerator Q D u → (E : Representation T d)
+      → ((x : Fin T.places) → E.at x ≡ extension_matrix Q D u x) → IsExtension Q D u E
+  extension_by_matrix u h E s = record {
+    at-member = λ n. same (H.member n) ∙ (extended-is Q D u h).at-member n;
+    at-generator = same Q.generator ∙ (extended-is Q D u h).at-generator;
+  }
+    where
+      same : (x : Fin T.places) → E.at x ≡ (extended Q D u h).at x
+      same x = s x ∙ sym (extension-matrix Q D u (extended Q D u h) (extended-is Q D u h) x)
+
+  -- the extensions by the multiples
+  pub multiples_extend : (u : Matrix R d d) → StandsForGenerator Q D u → (roots : RootsOfOne R Q.index) → (a : Fin Q.index)
+      → (E : Representation T d) × IsExtension Q D (scale R (roots.root a) u) E × ((x : Fin T.places) → E.at x ≡ extension_matrix Q D (scale R (roots.root a) u) x)
+  multiples_extend u h roots a = let s = stands_times_root Q D u (roots.root a) h (roots.power a) in (
+    extended Q D (scale R (roots.root a) u) s,
+    extended-is Q D (scale R (roots.root a) u) s,
+    extension-matrix Q D (scale R (roots.root a) u) (extended Q D (scale R (roots.root a) u) s) (extended-is Q D (scale R (roots.root a) u) s),
+  )
+
+module _ {R : Ring} {T : FactorSystem R} {H : Subgroup T} (Q : CyclicQuotient H) (L : Representations H.table) (turn : Fin L.count → Fin L.count) (l : Fin L.count) where
+  pub induced_over : {e : ℕ} (E : Representation T e) → (turn l ≡ l → ⊥) → IsLeastOfOrbit turn Q.index l → IsInduced Q (L.member l) E
+      → AreOver Q L turn l (listed {n = 1} e (λ k. E))
+  induced_over E n h i = record {
+    extensions = λ e. absurd (n e);
+    extends = λ e. absurd (n e);
+    differ = λ e. absurd (n e);
+    one_induced = λ f k. refl;
+    induced = λ f k m. i;
+    no_other = λ f k. absurd (k h);
+  }
+
+  pub none_over : (turn l ≡ l → ⊥) → (IsLeastOfOrbit turn Q.index l → ⊥) → AreOver Q L turn l (none T)
+  none_over n h = record {
+    extensions = λ e. absurd (n e);
+    extends = λ e. absurd (n e);
+    differ = λ e. absurd (n e);
+    one_induced = λ f k. absurd (h k);
+    induced = λ f k. absurd (h k);
+    no_other = λ f k. refl;
+  }
+
+module _ (F : Field) {T : FactorSystem F.ring} {H : Subgroup T} (Q : CyclicQuotient H) (L : Representations H.table) (full : IsFull L)
+    (turn : Fin L.count → Fin L.count) (l : Fin L.count) (fixed : turn l ≡ l) where
+  open F use {ring as R}
+
+  pub extensions_over : (u : Matrix R (L.size l) (L.size l)) → StandsForGenerator Q (L.member l) u → (roots : RootsOfOne R Q.index)
+      → (E : Fin Q.index → Representation T (L.size l)) → ((a : Fin Q.index) → IsExtension Q (L.member l) (scale R (roots.root a) u) (E a))
+      → AreOver Q L turn l (listed (L.size l) E)
+  extensions_over u h roots E extend = record {
+    extensions = λ e. refl;
+    extends = λ e a. equivalent_of_same (restrict H (E a)) (L.member l).at (extend a).at-member;
+    differ = λ e a b d. multiples_differ F Q (L.member l) (full.positive l) (full.simple l) u (stands-ne-null F Q (L.member l) (full.positive l) u h)
+        (roots.root a) (roots.root b) (λ q. d (roots.injective a b q)) (E a) (E b) (extend a) (extend b);
+    one_induced = λ n. absurd (n fixed);
+    induced = λ n. absurd (n fixed);
+    no_other = λ n. absurd (n fixed);
+  }
