@@ -1,9 +1,10 @@
 -- The lists over all members are a climbed list.
 --
--- least_strict  the two forms of the least of an orbit are one
+-- no_index      there is no index below 0, one_index one below 1, some_index that one
+-- lists_exist   where the field has the roots there is a list over each member
 -- union_climb   a list that holds the members of the lists over all members is a climbed list
 -- union_full    so it is full
-use Rattle.std.proofs.Common.{◌≡◌, sym, ◌∙◌, ap, subst, ℕ, zero, suc, ◌-◌, ◌<◌, ◌≤◌, ◌⊎◌, inl, inr, arith}
+use Rattle.std.proofs.Common.{◌≡◌, sym, ◌∙◌, ap, subst, ℕ, ◌-◌, ◌<◌, ◌⊎◌, inl, inr, arith}
 use Rattle.irr_algebra.specs.Field.{Field}
 use Rattle.irr_algebra.specs.Fin.{Fin, to_nat}
 use Rattle.irr_algebra.specs.Matrix.{trace}
@@ -14,45 +15,18 @@ use Rattle.irr_theory.specs.FactorSystem.{FactorSystem}
 use Rattle.irr_theory.specs.Representations.{Representations, IsFull}
 use Rattle.irr_clifford.specs.Subgroup.{Subgroup, restrict}
 use Rattle.irr_clifford.specs.Cyclic.{CyclicQuotient, conjugate, IsInduced}
-use Rattle.irr_clifford.specs.Climb.{IsClimb, occurrences}
+use Rattle.irr_clifford.specs.Climb.{IsClimb, ClimbChoice, occurrences}
+use Rattle.irr_clifford.proofs.InducedFamily.{induced_family, induced_family-is}
 use Rattle.irr_clifford.proofs.Labels.{occurrences_by_labels}
-use Rattle.irr_clifford.proofs.Least.{IsLeast, least_or_not, least_unique, least_exists}
-use Rattle.irr_clifford.proofs.Orbits.{iterate-fixed, iterate-back, fixed_of_iterate}
+use Rattle.irr_clifford.proofs.Least.{IsLeast, least_unique, least_exists}
+use Rattle.irr_clifford.proofs.Orbits.{iterate-fixed, iterate-back}
 use Rattle.irr_clifford.proofs.Split.{index-positive}
 use Rattle.irr_clifford.proofs.Squares.{climb_full}
 use Rattle.irr_clifford.proofs.Turns.{turned_period}
-use Rattle.irr_ascent.specs.Joined.{Family, family, IsUnion}
+use Rattle.irr_ascent.specs.Joined.{Family, family, listed, none, IsUnion}
+use Rattle.irr_ascent.proofs.Orbit.{least_of_strict, strict_of_least, strict_or_not}
+use Rattle.irr_ascent.proofs.Members.{extensions_over, multiples_extend, induced_over, none_over}
 use Rattle.irr_ascent.specs.Over.{AreOver, IsLeastOfOrbit}
-
-module _ {n : ℕ} (f : Fin n → Fin n) (p : ℕ) where
-  -- not above its images, from below them
-  pub least_of_strict : (l : Fin n) → IsLeastOfOrbit f p l → IsLeast f p l
-  unfolding iterate
-  least_of_strict l h = record { below = λ a. one (to_nat a) (to_nat-lt a) }
-    where
-      one : (a : ℕ) → a < p → to_nat l ≤ to_nat (iterate f a l)
-      one zero k = omega arith
-      one (suc a) k = let i = h (suc a) (omega arith) k in omega arith
-
-  module _ (small : (p ≡ 2) ⊎ (p ≡ 3)) (period : (a : Fin n) → iterate f p a ≡ a) where
-    -- and back, where it is not fixed
-    pub strict_of_least : (l : Fin n) → (f l ≡ l → ⊥) → IsLeast f p l → IsLeastOfOrbit f p l
-    strict_of_least l free h a i j = strict (to_nat l) (to_nat (iterate f a l))
-        (subst (λ b. to_nat l ≤ to_nat (iterate f b l)) (to_nat-from_nat p a j) (h.below (from_nat p a j)))
-        (λ e. free (fixed_of_iterate f p small period a i j l (to_nat_inj (iterate f a l) l (sym e))))
-      where
-        strict : (x y : ℕ) → x ≤ y → (x ≡ y → ⊥) → x < y
-        strict x y k n = omega arith
-
-    pub strict_or_not : (l : Fin n) → (f l ≡ l → ⊥) → IsLeastOfOrbit f p l ⊎ (IsLeastOfOrbit f p l → ⊥)
-    strict_or_not l free = go (least_or_not f p l)
-      where
-        go : IsLeast f p l ⊎ ((a : Fin p) × (to_nat (iterate f (to_nat a) l) < to_nat l)) → IsLeastOfOrbit f p l ⊎ (IsLeastOfOrbit f p l → ⊥)
-        go (inl h) = inl (strict_of_least l free h)
-        go (inr s) = inr (λ h. above s.0 s.1 ((least_of_strict l h).below s.0))
-          where
-            above : (a : Fin p) → to_nat (iterate f (to_nat a) l) < to_nat l → to_nat l ≤ to_nat (iterate f (to_nat a) l) → ⊥
-            above a i k = omega arith
 
 -- there is no index below 0, and one below 1
 no_index : (n : ℕ) → n ≡ 0 → Fin n → ⊥
@@ -209,3 +183,24 @@ module _ (F : Field) {T : FactorSystem F.ring} {H : Subgroup T} (Q : CyclicQuoti
 
   pub union_full : IsFull M
   union_full = climb_full F Q small L full M union_climb
+
+module _ (F : Field) {T : FactorSystem F.ring} {H : Subgroup T} (Q : CyclicQuotient H) (small : (Q.index ≡ 2) ⊎ (Q.index ≡ 3)) (L : Representations H.table)
+    (full : IsFull L) (c : ClimbChoice Q L) where
+  -- a list over each member
+  pub lists_exist : (l : Fin L.count) → (B : Representations T) × AreOver Q L c.turn l B
+  lists_exist l = by_turn (same_or_not (c.turn l) l)
+    where
+      by_turn : (c.turn l ≡ l) ⊎ (c.turn l ≡ l → ⊥) → (B : Representations T) × AreOver Q L c.turn l B
+      by_turn (inl e) =
+          let extend = multiples_extend Q (L.member l) (c.matrix l e) (c.stands l e) c.roots in (
+            listed (L.size l) (λ a. (extend a).0),
+            extensions_over F Q L full c.turn l e (c.matrix l e) (c.stands l e) c.roots (λ a. (extend a).0) (λ a. (extend a).1),
+          )
+      by_turn (inr n) = by_order (strict_or_not c.turn Q.index small (turned_period F Q L c.turn c.turns full) l n)
+        where
+          by_order : IsLeastOfOrbit c.turn Q.index l ⊎ (IsLeastOfOrbit c.turn Q.index l → ⊥) → (B : Representations T) × AreOver Q L c.turn l B
+          by_order (inl h) = (
+            listed {n = 1} _ (λ k. induced_family Q (L.member l)),
+            induced_over Q L c.turn l (induced_family Q (L.member l)) n h (induced_family-is Q (L.member l)),
+          )
+          by_order (inr h) = (none T, none_over Q L c.turn l n h)

@@ -3,6 +3,9 @@
 -- induced_of_same   a family with the matrices of an induced one is induced
 -- induced_by_matrix the matrices that are written out are those of an induced family
 -- extension_by_matrix  and those of an extension
+-- multiple_powers   the extension by a multiple of a matrix is a multiple of the other at each place
+-- multiple_traces   and so are its traces
+-- multiples_extend  the multiples by the roots of 1 have extensions
 -- extensions_over   the extensions by the multiples of a matrix by the roots of 1 are a list over a fixed member
 -- induced_over      an induced family alone is one over the least of an orbit of several
 -- none_over         no family is one over the others
@@ -12,20 +15,21 @@ use Rattle.irr_algebra.specs.Ring.{Ring}
 use Rattle.irr_algebra.specs.Field.{Field}
 use Rattle.irr_algebra.specs.Fin.{Fin, to_nat}
 use Rattle.irr_algebra.specs.Pair.{times}
-use Rattle.irr_algebra.specs.Matrix.{Matrix, ◌·◌, scale, total}
+use Rattle.irr_algebra.specs.Matrix.{Matrix, ◌·◌, scale, total, trace}
+use Rattle.irr_algebra.proofs.Matrices.{scale-mul, scale-scale, trace-scale}
 use Rattle.irr_theory.specs.Extension.{matrix_power}
 use Rattle.irr_theory.specs.FactorSystem.{FactorSystem, Representation}
 use Rattle.irr_theory.specs.Representations.{Representations, IsFull}
 use Rattle.irr_theory.specs.Traces.{back}
 use Rattle.irr_clifford.specs.Subgroup.{Subgroup, restrict}
 use Rattle.irr_clifford.specs.Cyclic.{CyclicQuotient, StandsForGenerator, IsExtension, IsInduced}
-use Rattle.irr_clifford.specs.Formulas.{extension_matrix, induced_matrix}
-use Rattle.irr_clifford.specs.Roots.{RootsOfOne}
+use Rattle.irr_clifford.specs.Formulas.{extension_matrix, induced_matrix, split_phase}
+use Rattle.irr_clifford.specs.Roots.{number_power, RootsOfOne}
 use Rattle.irr_clifford.proofs.ClimbList.{equivalent_of_same}
 use Rattle.irr_clifford.proofs.Extended.{extended, extended-is}
 use Rattle.irr_clifford.proofs.Formulas.{extension-matrix, induced-matrix}
 use Rattle.irr_clifford.proofs.InducedFamily.{induced_family, induced_family-is}
-use Rattle.irr_clifford.proofs.Roots.{stands_times_root, stands-ne-null, multiples_differ}
+use Rattle.irr_clifford.proofs.Roots.{matrix_power-scale, stands_times_root, stands-ne-null, multiples_differ}
 use Rattle.irr_ascent.specs.Joined.{listed, none}
 use Rattle.irr_ascent.specs.Over.{AreOver, IsLeastOfOrbit}
 
@@ -59,16 +63,38 @@ module _ {R : Ring} {T : FactorSystem R} {H : Subgroup T} (Q : CyclicQuotient H)
       same : (x : Fin T.places) → E.at x ≡ (extended Q D u h).at x
       same x = s x ∙ sym (extension-matrix Q D u (extended Q D u h) (extended-is Q D u h) x)
 
+  -- the extension by a multiple of u is that by u, times a power of the number at each place
+  pub multiple_powers : (u : Matrix R d d) (z : R.Carrier) (A B : Representation T d) → IsExtension Q D u A → IsExtension Q D (scale R z u) B
+      → (x : Fin T.places) → B.at x ≡ scale R (number_power R z (to_nat (Q.exponent x))) (A.at x)
+  unfolding extension_matrix
+  multiple_powers u z A B hA hB x =
+      extension-matrix Q D (scale R z u) B hB x
+      ∙ ap (scale R (split_phase Q x)) (
+      ap (λ (m : Matrix R d d). m · D.at (Q.part x)) (matrix_power-scale R z u (to_nat (Q.exponent x)))
+      ∙ scale-mul R (number_power R z (to_nat (Q.exponent x))) (matrix_power u (to_nat (Q.exponent x))) (D.at (Q.part x)))
+      ∙ scale_swap (split_phase Q x) (number_power R z (to_nat (Q.exponent x))) (matrix_power u (to_nat (Q.exponent x)) · D.at (Q.part x))
+      ∙ ap (scale R (number_power R z (to_nat (Q.exponent x)))) (sym (extension-matrix Q D u A hA x))
+    where
+      scale_swap : (a b : R.Carrier) (m : Matrix R d d) → scale R a (scale R b m) ≡ scale R b (scale R a m)
+      scale_swap a b m = scale-scale R a b m ∙ ap (λ c. scale R c m) (R.mul_comm a b) ∙ sym (scale-scale R b a m)
+
+  -- so its traces are those of the extension by u, times these powers
+  pub multiple_traces : (u : Matrix R d d) (z : R.Carrier) (A B : Representation T d) → IsExtension Q D u A → IsExtension Q D (scale R z u) B
+      → (x : Fin T.places) → trace (B.at x) ≡ R.mul (number_power R z (to_nat (Q.exponent x))) (trace (A.at x))
+  multiple_traces u z A B hA hB x = ap trace (multiple_powers u z A B hA hB x) ∙ trace-scale R (number_power R z (to_nat (Q.exponent x))) (A.at x)
+
   -- the extensions by the multiples
   pub multiples_extend : (u : Matrix R d d) → StandsForGenerator Q D u → (roots : RootsOfOne R Q.index) → (a : Fin Q.index)
-      → (E : Representation T d) × IsExtension Q D (scale R (roots.root a) u) E × ((x : Fin T.places) → E.at x ≡ extension_matrix Q D (scale R (roots.root a) u) x)
+      → (E : Representation T d) × IsExtension Q D (scale R (roots.root a) u) E
+      × ((x : Fin T.places) → E.at x ≡ extension_matrix Q D (scale R (roots.root a) u) x)
   multiples_extend u h roots a = let s = stands_times_root Q D u (roots.root a) h (roots.power a) in (
     extended Q D (scale R (roots.root a) u) s,
     extended-is Q D (scale R (roots.root a) u) s,
     extension-matrix Q D (scale R (roots.root a) u) (extended Q D (scale R (roots.root a) u) s) (extended-is Q D (scale R (roots.root a) u) s),
   )
 
-module _ {R : Ring} {T : FactorSystem R} {H : Subgroup T} (Q : CyclicQuotient H) (L : Representations H.table) (turn : Fin L.count → Fin L.count) (l : Fin L.count) where
+module _ {R : Ring} {T : FactorSystem R} {H : Subgroup T} (Q : CyclicQuotient H) (L : Representations H.table)
+    (turn : Fin L.count → Fin L.count) (l : Fin L.count) where
   pub induced_over : {e : ℕ} (E : Representation T e) → (turn l ≡ l → ⊥) → IsLeastOfOrbit turn Q.index l → IsInduced Q (L.member l) E
       → AreOver Q L turn l (listed {n = 1} e (λ k. E))
   induced_over E n h i = record {

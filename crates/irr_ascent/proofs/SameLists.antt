@@ -13,7 +13,8 @@ use Rattle.irr_algebra.proofs.Pairs.{plus-add}
 use Rattle.irr_theory.specs.FactorSystem.{FactorSystem, Representation}
 use Rattle.irr_theory.specs.Representations.{Representations}
 use Rattle.irr_ascent.specs.Joined.{Family, family, append, listed, on_last}
-use Rattle.irr_ascent.proofs.Places.{by_plus, by_last, append-left, append-right, append-before, append-after, to_nat-left, to_nat-right, to_nat-widen, to_nat-last, on_last-widen, on_last-last}
+use Rattle.irr_ascent.proofs.Places.{by_plus, by_last, append-left, append-right, append-before, append-after}
+use Rattle.irr_ascent.proofs.Places.{to_nat-left, to_nat-right, to_nat-widen, to_nat-last, on_last-widen, on_last-last}
 
 module _ {R : Ring} {T : FactorSystem R} where
   -- the list of n families
@@ -52,14 +53,17 @@ module _ {R : Ring} {T : FactorSystem R} where
       second_of : (i : Fin (append (append A B) C).count) (b : Fin B.count) → to_nat i ≡ A.count + to_nat b → family (append (append A B) C) i ≡ family B b
       second_of i b e = append-before (append A B) C i (right A.count b) (e ∙ sym (to_nat-right A.count b)) ∙ append-right A B b
 
-      third_of : (i : Fin (append (append A B) C).count) (c : Fin C.count) → to_nat i ≡ A.count + (B.count + to_nat c) → family (append (append A B) C) i ≡ family C c
+      third_of : (i : Fin (append (append A B) C).count) (c : Fin C.count) → to_nat i ≡ A.count + (B.count + to_nat c)
+          → family (append (append A B) C) i ≡ family C c
       third_of i c e = append-after (append A B) C i c (let b : plus A.count B.count ≡ A.count + B.count = plus-add A.count B.count in omega arith)
 
-  pub listed_more : {n : ℕ} (d : ℕ) (E : Fin n → Representation T d) (D : Representation T d) → listed d (on_last E D) ≡ append (listed d E) (listed {n = 1} d (λ k. D))
+  pub listed_more : {n : ℕ} (d : ℕ) (E : Fin n → Representation T d) (D : Representation T d)
+      → listed d (on_last E D) ≡ append (listed d E) (listed {n = 1} d (λ k. D))
   unfolding to_nat
   listed_more {n} d E D = same_list (listed d (on_last E D)) (append (listed d E) (listed {n = 1} d (λ k. D)))
       (let h : plus n 1 ≡ n + 1 = plus-add n 1 in omega arith)
-      (by_last n (λ i. (j : Fin (plus n 1)) → to_nat i ≡ to_nat j → family (listed d (on_last E D)) i ≡ family (append (listed d E) (listed {n = 1} d (λ k. D))) j)
+      (by_last n (λ i. (j : Fin (plus n 1)) → to_nat i ≡ to_nat j
+      → family (listed d (on_last E D)) i ≡ family (append (listed d E) (listed {n = 1} d (λ k. D))) j)
       (λ i j e. ap (of_size d) (on_last-widen E D i) ∙ sym (append-before (listed d E) (listed {n = 1} d (λ k. D)) j i (sym e ∙ to_nat-widen i)))
       (λ j e. ap (of_size d) (on_last-last E D) ∙ sym (append-after (listed d E) (listed {n = 1} d (λ k. D)) j first (sym e ∙ to_nat-last n ∙ none_more n))))
     where

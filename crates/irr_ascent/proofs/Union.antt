@@ -14,7 +14,8 @@ use Rattle.irr_algebra.specs.Pair.{left, right, on_plus}
 use Rattle.irr_theory.specs.FactorSystem.{FactorSystem}
 use Rattle.irr_theory.specs.Representations.{Representations}
 use Rattle.irr_ascent.specs.Joined.{family, none, append, widen, last, on_last, joined, IsUnion}
-use Rattle.irr_ascent.proofs.Places.{on_plus-left, on_plus-right, by_plus, by_last, by_last-widen, by_last-last, on_last-widen, on_last-last, append-left, append-right}
+use Rattle.irr_ascent.proofs.Places.{on_plus-left, on_plus-right, by_plus, by_last, by_last-widen, by_last-last}
+use Rattle.irr_ascent.proofs.Places.{on_last-widen, on_last-last, append-left, append-right}
 
 module _ {R : Ring} {T : FactorSystem R} where
   pub union_none : (over : Fin 0 → Representations T) → IsUnion over (none T)
@@ -70,7 +71,8 @@ module _ {R : Ring} {T : FactorSystem R} where
     there : (l : Fin (suc n)) (k : Fin (over l).count) → at (index_of l k) ≡ (l, k)
     unfolding before after
     there = by_last n (λ l. (k : Fin (over l).count) → at (index_of l k) ≡ (l, k))
-        (λ l k. ap at (index-widen l k) ∙ at-before (u.index_of l k) ∙ ap (λ (s : (l : Fin n) × Fin (over (widen l)).count). (widen s.0, s.1)) (u.at-index_of l k))
+        (λ l k. ap at (index-widen l k) ∙ at-before (u.index_of l k)
+        ∙ ap (λ (s : (l : Fin n) × Fin (over (widen l)).count). (widen s.0, s.1)) (u.at-index_of l k))
         (λ k. ap at (index-last k) ∙ at-after k)
 
     back_again : (m : Fin (append M (over last)).count) → index_of (at m).0 (at m).1 ≡ m
@@ -93,7 +95,8 @@ module _ {R : Ring} {T : FactorSystem R} where
   joined_union (suc n) over = union_append over (joined n (λ l. over (widen l))) (joined_union n (λ l. over (widen l)))
 
   pub joined_grown : (n : ℕ) (over : Fin n → Representations T) (B : Representations T) → joined (suc n) (on_last over B) ≡ append (joined n over) B
-  joined_grown n over B = ap₂ (λ (f : Fin n → Representations T) (A : Representations T). append (joined n f) A) (fun_ext (λ l. on_last-widen over B l)) (on_last-last over B)
+  joined_grown n over B =
+      ap₂ (λ (f : Fin n → Representations T) (A : Representations T). append (joined n f) A) (fun_ext (λ l. on_last-widen over B l)) (on_last-last over B)
 
   -- what holds of each list and of one more holds of each of these
   pub each_grown : {n : ℕ} (over : Fin n → Representations T) (B : Representations T) (P : Fin (suc n) → Representations T → Type 0)

@@ -3,7 +3,7 @@
 // laws are the contracts of the functions below.
 #![tactic(auto)]
 
-ghost use Rattle.std.specs.Prelude.{ℕ, ◌≡◌, ◌<◌, ◌+◌, ◌⊎◌, suc};
+ghost use Rattle.std.specs.Prelude.{ℕ, ◌≡◌, ◌<◌, ◌+◌, ◌⊎◌, ◌↔◌, suc};
 ghost use Rattle.irr_algebra.specs.Fin.{Fin, to_nat};
 ghost use Rattle.irr_algebra.specs.Pair.{times};
 ghost use Rattle.irr_algebra.specs.Matrix.{Matrix, scale, trace};
@@ -12,8 +12,8 @@ ghost use Rattle.irr_theory.specs.FactorSystem.{FactorSystem, Representation};
 ghost use Rattle.irr_theory.specs.Representations.{Representations, IsFull};
 ghost use Rattle.irr_clifford.specs.Subgroup.{Subgroup};
 ghost use Rattle.irr_clifford.specs.Cyclic.{conjugate, CyclicQuotient, IsExtension, IsInduced, StandsForGenerator};
-ghost use Rattle.irr_clifford.specs.Roots.{RootsOfOne};
-ghost use Rattle.irr_clifford.specs.Climb.{IsClimb};
+ghost use Rattle.irr_clifford.specs.Roots.{number_power, RootsOfOne};
+ghost use Rattle.irr_clifford.specs.Climb.{ClimbChoice, IsClimb};
 ghost use Rattle.irr_clifford.specs.Formulas.{extension_matrix, induced_matrix};
 ghost use Rattle.irr_ascent.specs.Joined.{append, family, IsUnion, joined, last, listed, none, on_last, rearranged, widen};
 ghost use Rattle.irr_ascent.specs.First.{IsOverFirst};
@@ -22,12 +22,14 @@ ghost use Rattle.irr_ascent.specs.Over.{AreOver, IsLeastOfOrbit};
 use irr_algebra::{InField, InRing};
 
 /// The lists over all members, in any order, are a climbed list, and so a full one: one after another in
-/// particular.
+/// particular. Where the field has the roots, there is a list over each member.
 pub fn climbed_list_of_members<N: InField>()
     ensures union { (T : FactorSystem N.field.ring) (H : Subgroup T) (Q : CyclicQuotient H) (L : Representations H.table) (turn : Fin L.count → Fin L.count)
         (over : Fin L.count → Representations T) (M : Representations T) → (Q.index ≡ 2) ⊎ (Q.index ≡ 3) → IsFull L
         → ((l : Fin L.count) → Equivalent (conjugate Q (L.member l)) (L.member (turn l)).at) → ((l : Fin L.count) → AreOver Q L turn l (over l))
         → IsUnion over M → IsClimb Q L M × IsFull M }
+    ensures exists { (T : FactorSystem N.field.ring) (H : Subgroup T) (Q : CyclicQuotient H) (L : Representations H.table)
+        → (Q.index ≡ 2) ⊎ (Q.index ≡ 3) → IsFull L → (c : ClimbChoice Q L) → (l : Fin L.count) → (B : Representations T) × AreOver Q L c.turn l B }
     ensures climb { (T : FactorSystem N.field.ring) (H : Subgroup T) (Q : CyclicQuotient H) (L : Representations H.table) (turn : Fin L.count → Fin L.count)
         (over : Fin L.count → Representations T) → (Q.index ≡ 2) ⊎ (Q.index ≡ 3) → IsFull L
         → ((l : Fin L.count) → Equivalent (conjugate Q (L.member l)) (L.member (turn l)).at) → ((l : Fin L.count) → AreOver Q L turn l (over l))
@@ -90,30 +92,36 @@ pub fn turn_by_traces<N: InField>()
 {}
 
 /// The extensions of a member that is equivalent to its conjugate, by the multiples of one matrix by the roots
-/// of 1, are a list over it; there are such extensions, and their matrices are those written out.
+/// of 1, are a list over it; there are such extensions, and their matrices are those written out. That by z
+/// times a matrix is the extension by the matrix, times z to the exponent of each place.
 pub fn extensions_by_roots<N: InField>()
-    ensures list { (T : FactorSystem N.field.ring) (H : Subgroup T) (Q : CyclicQuotient H) (L : Representations H.table) (turn : Fin L.count → Fin L.count) (l : Fin L.count)
-        (u : Matrix N.field.ring (L.size l) (L.size l)) (roots : RootsOfOne N.field.ring Q.index) (E : Fin Q.index → Representation T (L.size l))
-        → IsFull L → turn l ≡ l → StandsForGenerator Q (L.member l) u → ((a : Fin Q.index) → IsExtension Q (L.member l) (scale N.field.ring (roots.root a) u) (E a))
-        → AreOver Q L turn l (listed (L.size l) E) }
-    ensures exists { (T : FactorSystem N.field.ring) (H : Subgroup T) (Q : CyclicQuotient H) (d : ℕ) (D : Representation H.table d) (u : Matrix N.field.ring d d)
-        (roots : RootsOfOne N.field.ring Q.index) (a : Fin Q.index) → StandsForGenerator Q D u
+    ensures list { (T : FactorSystem N.field.ring) (H : Subgroup T) (Q : CyclicQuotient H) (L : Representations H.table) (turn : Fin L.count → Fin L.count)
+        (l : Fin L.count) (u : Matrix N.field.ring (L.size l) (L.size l)) (roots : RootsOfOne N.field.ring Q.index)
+        (E : Fin Q.index → Representation T (L.size l)) → IsFull L → turn l ≡ l → StandsForGenerator Q (L.member l) u
+        → ((a : Fin Q.index) → IsExtension Q (L.member l) (scale N.field.ring (roots.root a) u) (E a)) → AreOver Q L turn l (listed (L.size l) E) }
+    ensures exists { (T : FactorSystem N.field.ring) (H : Subgroup T) (Q : CyclicQuotient H) (d : ℕ) (D : Representation H.table d)
+        (u : Matrix N.field.ring d d) (roots : RootsOfOne N.field.ring Q.index) (a : Fin Q.index) → StandsForGenerator Q D u
         → (E : Representation T d) × IsExtension Q D (scale N.field.ring (roots.root a) u) E
         × ((x : Fin T.places) → E.at x ≡ extension_matrix Q D (scale N.field.ring (roots.root a) u) x) }
-    ensures by_matrix { (T : FactorSystem N.field.ring) (H : Subgroup T) (Q : CyclicQuotient H) (d : ℕ) (D : Representation H.table d) (u : Matrix N.field.ring d d)
-        (E : Representation T d) → StandsForGenerator Q D u → ((x : Fin T.places) → E.at x ≡ extension_matrix Q D u x) → IsExtension Q D u E }
+    ensures by_matrix { (T : FactorSystem N.field.ring) (H : Subgroup T) (Q : CyclicQuotient H) (d : ℕ) (D : Representation H.table d)
+        (u : Matrix N.field.ring d d) (E : Representation T d) → StandsForGenerator Q D u
+        → ((x : Fin T.places) → E.at x ≡ extension_matrix Q D u x) → IsExtension Q D u E }
+    ensures powers { (T : FactorSystem N.field.ring) (H : Subgroup T) (Q : CyclicQuotient H) (d : ℕ) (D : Representation H.table d)
+        (u : Matrix N.field.ring d d) (z : N.field.Carrier) (A B : Representation T d) → IsExtension Q D u A → IsExtension Q D (scale N.field.ring z u) B
+        → (x : Fin T.places) → (B.at x ≡ scale N.field.ring (number_power N.field.ring z (to_nat (Q.exponent x))) (A.at x))
+        × (trace (B.at x) ≡ N.field.mul (number_power N.field.ring z (to_nat (Q.exponent x))) (trace (A.at x))) }
 {}
 
 /// An induced family alone is a list over the least of an orbit of several members, and no family is one over
 /// the others; a family with the matrices that are written out is induced.
 pub fn list_of_induced<N: InRing>()
-    ensures list { (T : FactorSystem N.ring) (H : Subgroup T) (Q : CyclicQuotient H) (L : Representations H.table) (turn : Fin L.count → Fin L.count) (l : Fin L.count)
-        (e : ℕ) (E : Representation T e) → (turn l ≡ l → ⊥) → IsLeastOfOrbit turn Q.index l → IsInduced Q (L.member l) E
+    ensures list { (T : FactorSystem N.ring) (H : Subgroup T) (Q : CyclicQuotient H) (L : Representations H.table) (turn : Fin L.count → Fin L.count)
+        (l : Fin L.count) (e : ℕ) (E : Representation T e) → (turn l ≡ l → ⊥) → IsLeastOfOrbit turn Q.index l → IsInduced Q (L.member l) E
         → AreOver Q L turn l (listed e (λ (k : Fin 1). E)) }
-    ensures none { (T : FactorSystem N.ring) (H : Subgroup T) (Q : CyclicQuotient H) (L : Representations H.table) (turn : Fin L.count → Fin L.count) (l : Fin L.count)
-        → (turn l ≡ l → ⊥) → (IsLeastOfOrbit turn Q.index l → ⊥) → AreOver Q L turn l (none T) }
-    ensures by_matrix { (T : FactorSystem N.ring) (H : Subgroup T) (Q : CyclicQuotient H) (d : ℕ) (D : Representation H.table d) (E : Representation T (times Q.index d))
-        → ((x : Fin T.places) → E.at x ≡ induced_matrix Q D x) → IsInduced Q D E }
+    ensures none { (T : FactorSystem N.ring) (H : Subgroup T) (Q : CyclicQuotient H) (L : Representations H.table) (turn : Fin L.count → Fin L.count)
+        (l : Fin L.count) → (turn l ≡ l → ⊥) → (IsLeastOfOrbit turn Q.index l → ⊥) → AreOver Q L turn l (none T) }
+    ensures by_matrix { (T : FactorSystem N.ring) (H : Subgroup T) (Q : CyclicQuotient H) (d : ℕ) (D : Representation H.table d)
+        (E : Representation T (times Q.index d)) → ((x : Fin T.places) → E.at x ≡ induced_matrix Q D x) → IsInduced Q D E }
 {}
 
 /// A full list in another order is full.
@@ -122,4 +130,11 @@ pub fn full_in_any_order<N: InField>()
         → ((i : Fin M.count) → s (t i) ≡ i) → ((i : Fin n) → t (s i) ≡ i) → IsFull M → IsFull (rearranged M s) }
     ensures same { (T : FactorSystem N.field.ring) (L M : Representations T) (s : Fin L.count → Fin M.count) (t : Fin M.count → Fin L.count)
         → ((i : Fin M.count) → s (t i) ≡ i) → ((i : Fin L.count) → t (s i) ≡ i) → ((i : Fin L.count) → family L i ≡ family M (s i)) → IsFull M → IsFull L }
+{}
+
+/// Whether an index is the least of its orbit: one comparison tells for the index 2, and two for the index 3.
+pub fn least_of_orbit<N: InRing>()
+    ensures two { (n : ℕ) (turn : Fin n → Fin n) (p : ℕ) (l : Fin n) → p ≡ 2 → (to_nat l < to_nat (turn l)) ↔ IsLeastOfOrbit turn p l }
+    ensures three { (n : ℕ) (turn : Fin n → Fin n) (p : ℕ) (l : Fin n) → p ≡ 3
+        → ((to_nat l < to_nat (turn l)) × (to_nat l < to_nat (turn (turn l)))) ↔ IsLeastOfOrbit turn p l }
 {}
