@@ -1,9 +1,11 @@
 -- The lists over all members are a climbed list.
 --
--- no_index      there is no index below 0, one_index one below 1, some_index that one
--- lists_exist   where the field has the roots there is a list over each member
--- union_climb   a list that holds the members of the lists over all members is a climbed list
--- union_full    so it is full
+-- no_index     there is no index below 0
+-- one_index    there is one index below 1
+-- some_index   it is below 1
+-- union_climb  a list that holds the members of the lists over all members is a climbed list
+-- union_full   so it is full
+-- lists_exist  where the field has the roots there is a list over each member
 use Rattle.std.proofs.Common.{◌≡◌, sym, ◌∙◌, ap, subst, ℕ, ◌-◌, ◌<◌, ◌⊎◌, inl, inr, arith}
 use Rattle.irr_algebra.specs.Field.{Field}
 use Rattle.irr_algebra.specs.Fin.{Fin, to_nat}

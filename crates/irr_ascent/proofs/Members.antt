@@ -1,14 +1,14 @@
 -- The lists over one member.
 --
--- induced_of_same   a family with the matrices of an induced one is induced
--- induced_by_matrix the matrices that are written out are those of an induced family
+-- induced_of_same      a family with the matrices of an induced one is induced
+-- induced_by_matrix    the matrices that are written out are those of an induced family
 -- extension_by_matrix  and those of an extension
--- multiple_powers   the extension by a multiple of a matrix is a multiple of the other at each place
--- multiple_traces   and so are its traces
--- multiples_extend  the multiples by the roots of 1 have extensions
--- extensions_over   the extensions by the multiples of a matrix by the roots of 1 are a list over a fixed member
--- induced_over      an induced family alone is one over the least of an orbit of several
--- none_over         no family is one over the others
+-- multiple_powers      the extension by a multiple of a matrix is a multiple of the other at each place
+-- multiple_traces      and so are its traces
+-- multiples_extend     the multiples by the roots of 1 have extensions
+-- induced_over         an induced family alone is a list over the least of an orbit of several
+-- none_over            no family is one over the others
+-- extensions_over      the extensions by the multiples by the roots of 1 are a list over a fixed member
 use Rattle.std.proofs.Common.{◌≡◌, sym, ◌∙◌, ap, refl, ℕ}
 use mathlib.Core.Path.{fun_ext}
 use Rattle.irr_algebra.specs.Ring.{Ring}

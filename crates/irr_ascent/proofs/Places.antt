@@ -1,9 +1,23 @@
 -- Places of lists that stand one after another.
 --
--- by_plus        a fact at the left and at the right indices is one at each index
--- by_last        a fact at the indices before the last and at the last is one at each index
--- on_last-widen  what on_last has before the last index, and at it
--- append-left    the first list's members come first, and then the second's
+-- on_plus-left   f stands at the left indices
+-- on_plus-right  and g at the right ones
+-- by_plus        what holds at the left and at the right indices holds at each
+-- by_last        what holds before the last index and at it holds at each
+-- by_last-widen  it is the given proof before the last index
+-- by_last-last   and the given one at it
+-- on_last-widen  f stands before the last index
+-- on_last-last   and a at it
+-- to_nat-left    a left index has its own number
+-- to_nat-right   a right one has the first count added
+-- to_nat-widen   an index keeps its number
+-- to_nat-last    the last index below n + 1 is n
+-- widen_or_last  each index is before the last or the last
+-- append-left    the first list's members stand at the left indices
+-- append-right   and the second's at the right ones
+-- append-before  the first list's members have their own numbers
+-- append-after   and the second's the first count added
+-- append-count   the counts are added
 use Rattle.std.proofs.Common.{◌⊎◌, inl, inr, ◌≡◌, sym, ◌∙◌, ap, refl, ℕ, zero, suc, ◌+◌, arith}
 use Rattle.irr_algebra.specs.Ring.{Ring}
 use Rattle.irr_algebra.specs.Fin.{Fin, to_nat}

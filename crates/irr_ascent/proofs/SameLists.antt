@@ -2,7 +2,9 @@
 --
 -- same_list     two lists with one count, and the same families at the same numbers, are one list
 -- append_assoc  the grouping of three lists does not matter
+-- append_none   no members appended change nothing
 -- listed_more   one family more, of the same size, is appended
+-- listed_none   with no family there are no members
 use Rattle.std.proofs.Common.{◌≡◌, sym, ◌∙◌, ap, refl, subst, ℕ, ◌+◌, arith}
 use mathlib.Core.Path.{fun_ext}
 use Rattle.irr_algebra.specs.Ring.{Ring}
@@ -12,7 +14,7 @@ use Rattle.irr_algebra.specs.Pair.{plus, left, right}
 use Rattle.irr_algebra.proofs.Pairs.{plus-add}
 use Rattle.irr_theory.specs.FactorSystem.{FactorSystem, Representation}
 use Rattle.irr_theory.specs.Representations.{Representations}
-use Rattle.irr_ascent.specs.Joined.{Family, family, append, listed, on_last}
+use Rattle.irr_ascent.specs.Joined.{Family, family, append, listed, none, on_last}
 use Rattle.irr_ascent.proofs.Places.{by_plus, by_last, append-left, append-right, append-before, append-after}
 use Rattle.irr_ascent.proofs.Places.{to_nat-left, to_nat-right, to_nat-widen, to_nat-last, on_last-widen, on_last-last}
 
@@ -72,3 +74,10 @@ module _ {R : Ring} {T : FactorSystem R} where
 
       none_more : (n : ℕ) → n ≡ n + to_nat (first {n = 0})
       none_more n = omega arith
+
+  pub append_none : (A : Representations T) → append A (none T) ≡ A
+  append_none A = same_list (append A (none T)) A (let h : plus A.count 0 ≡ A.count + 0 = plus-add A.count 0 in omega arith)
+      (λ i j e. append-before A (none T) i j e)
+
+  pub listed_none : (d : ℕ) (E : Fin 0 → Representation T d) → listed d E ≡ none T
+  listed_none d E = same_list (listed d E) (none T) refl (λ i. elim i [ ])

@@ -72,6 +72,8 @@ pub fn lists_joined<N: InRing>()
     ensures same { (T : FactorSystem N.ring) (A B : Representations T) → A.count ≡ B.count
         → ((i : Fin A.count) (j : Fin B.count) → to_nat i ≡ to_nat j → family A i ≡ family B j) → A ≡ B }
     ensures grouped { (T : FactorSystem N.ring) (A B C : Representations T) → append (append A B) C ≡ append A (append B C) }
+    ensures nothing { (T : FactorSystem N.ring) (A : Representations T) → append A (none T) ≡ A }
+    ensures unlisted { (T : FactorSystem N.ring) (d : ℕ) (E : Fin 0 → Representation T d) → listed d E ≡ none T }
     ensures pushed { (T : FactorSystem N.ring) (n d : ℕ) (E : Fin n → Representation T d) (D : Representation T d)
         → listed d (on_last E D) ≡ append (listed d E) (listed d (λ (k : Fin 1). D)) }
 {}

@@ -1,6 +1,6 @@
 -- Lists one after another.
 use Rattle.irr_ascent.proofs.Places.{append-count, append-before, append-after, on_last-widen, on_last-last, to_nat-widen, to_nat-last, widen_or_last}
-use Rattle.irr_ascent.proofs.SameLists.{append_assoc, listed_more, same_list}
+use Rattle.irr_ascent.proofs.SameLists.{append_assoc, append_none, listed_more, listed_none, same_list}
 use Rattle.irr_ascent.proofs.Union.{joined_grown, joined_union}
 use Rattle.irr_ascent.proofs.lists_joined.Goals as goal
 
@@ -17,5 +17,7 @@ returns g c = record {
   after = λ T A B m j e. append-after A B m j e;
   same = λ T A B e h. same_list A B e h;
   grouped = λ T A B C. append_assoc A B C;
+  nothing = λ T A. append_none A;
+  unlisted = λ T d E. listed_none d E;
   pushed = λ T n d E D. listed_more d E D;
 }
