@@ -1,0 +1,9 @@
+pub mod Places
+pub mod Union
+pub mod SameLists
+pub mod First
+pub mod Turned
+pub mod Members
+pub mod Rearranged
+pub mod Orbit
+pub mod Climbed
