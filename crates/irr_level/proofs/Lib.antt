@@ -8,3 +8,4 @@ pub mod TableLevels
 pub mod LevelTraces
 pub mod Restricted
 pub mod FullLists
+pub mod RootSums

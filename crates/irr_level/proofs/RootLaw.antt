@@ -14,7 +14,7 @@ use Rattle.irr_number.proofs.NumberField.{number_field}
 use Rattle.irr_theory.specs.FactorSystem.{Representation}
 use Rattle.irr_theory.specs.Lifted.{lifted}
 use Rattle.irr_eigen.specs.Power.{Root}
-use Rattle.irr_eigen.specs.Step.{IsOutside, IsStep, Subtable}
+use Rattle.irr_eigen.specs.Step.{IsOutside, IsStep, Subtable, top_matrix}
 use Rattle.irr_eigen.proofs.KeptSums.{step-root}
 use Rattle.irr_space.specs.PhaseTable.{PhaseTable, exponents_below, phases_over, place_power}
 use Rattle.irr_rep.specs.Subgroup.{IsRestriction}
@@ -52,14 +52,14 @@ module _ {h : ℕ} (T : PhaseTable h) (members outer : List ℕ) (p : ℕ) (prim
 module _ {h n : ℕ} (T : PhaseTable h) (members outer : List ℕ) (S : PhaseTable n) (p : ℕ) (prime : (p ≡ 2) ⊎ (p ≡ 3))
     (normal : IsNormalOfIndex T members outer p) (g : Fin h) (generated : IsGenerated T members (to_nat g) outer) (restriction : IsRestriction T members S)
     (M : ℕ) (v : T.order ∣ M) (w : S.order ∣ M) where
-  sub : Subtable (phases_over S M w) (phases_over T M v)
+  pub sub : Subtable (phases_over S M w) (phases_over T M v)
   sub = (subtable T members S normal.subgroup restriction M v w).0
 
   sub_at : (i : Fin n) → sub.place i ≡ restriction.member i
   unfolding sub
   sub_at i = to_nat_inj (sub.place i) (restriction.member i) ((subtable T members S normal.subgroup restriction M v w).1 i ∙ sym (restriction.member-number i))
 
-  outside : IsOutside sub g p
+  pub outside : IsOutside sub g p
   outside = record {
     not-inside = λ e positive below i k. power_not_member T members outer p prime normal g generated e positive below
         (subst (In members) (sym (sub_at i) ∙ k ∙ lifted_place T M v g e) (member_in T members S normal.subgroup restriction i));
@@ -67,7 +67,7 @@ module _ {h n : ℕ} (T : PhaseTable h) (members outer : List ℕ) (S : PhaseTab
 
   module _ {d : ℕ} (D : Representation (phases_over S M w) d) (u : Matrix (numbers M) d d) (c : (numbers M).Carrier)
       (scalar : HasPowerScalar restriction M w g p D u c) where
-    scalar_step : IsStep sub D g p c u
+    pub scalar_step : IsStep sub D g p c u
     unfolding lifted
     scalar_step = record {
       top = scalar.top;
@@ -80,6 +80,12 @@ module _ {h n : ℕ} (T : PhaseTable h) (members outer : List ℕ) (S : PhaseTab
           ∙ sym (scale-scale (numbers M) c (phase_number T M (exponents_below T.start T.product T.exponent g p)) (D.at scalar.top))
           ∙ ap (λ k. scale (numbers M) c (scale (numbers M) k (D.at scalar.top))) (sym (lifted_number T M v g p));
     }
+
+    -- the matrix of the p-th power of g
+    pub step_matrix : top_matrix (phases_over T M v) D g p scalar_step.top
+        ≡ scale (numbers M) (phase_number T M (exponents_below T.start T.product T.exponent g p)) (D.at scalar.top)
+    unfolding scalar_step lifted
+    step_matrix = ap (λ k. scale (numbers M) k (D.at scalar.top)) (lifted_number T M v g p)
 
     pub power_scalar_root : 0 < M → (trace u ≡ (numbers M).zero → ⊥) → Root (numbers M) p c
     power_scalar_root positive t =
