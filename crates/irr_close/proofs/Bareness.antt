@@ -1,6 +1,7 @@
 -- Seeds without their vectors, and what follows for `close`.
 --   bare_numbers, bare_small, bare_refused, bare_few     they may be closed, and are refused where the generators are
 --   seeds_refusal, centrings_refusal                     the refusals of the steps are those of the whole
+--   is_closing                                           the closed lists have a canonical form
 --   group_stands                                         the closed lists stand for the generated group
 use Rattle.std.proofs.Common.{map, refl}
 use Rattle.std.proofs.lemmas.List.{length-map, get_or-map}
@@ -11,8 +12,9 @@ use Rattle.irr_rat.specs.VectorMeaning.{vector}
 use Rattle.irr_close.specs.Whole.{IsWholeVector}
 use Rattle.irr_close.specs.Limits.{HasFewCentrings}
 use Rattle.irr_close.specs.Centring.{HasTranslation}
+use Rattle.irr_close.specs.Canonical.{IsClosing}
 use Rattle.irr_close.specs.StandsFor.{IsAccepted}
-use Rattle.irr_close.proofs.Standing.{same_index}
+use Rattle.irr_close.proofs.Standing.{whole_in, difference_in, same_index}
 use Rattle.std.proofs.Common.{◌≡◌, sym, ◌∙◌, ap, subst, ℕ, ◌<◌, ◌≤◌, ◌↔◌, List, [], ◌∷◌, length, get_or, unsigned_abs, arith}
 use Rattle.std.specs.List.{All, Contains}
 use Rattle.std.specs.Int.{◌∣◌}
@@ -31,12 +33,13 @@ use Rattle.irr_close.specs.Closing.{IsGenerator, IsPartial, HasRotation, HasProd
 use Rattle.irr_close.specs.Centring.{AreInvertible, IsPartialLattice, IsSettled, IsLatticeRefusal}
 use Rattle.irr_close.specs.Standing.{StandFor}
 use Rattle.irr_close.specs.Bare.{AreBare}
+use Rattle.irr_close.specs.Canonical.{IsClosing}
 use Rattle.irr_close.specs.StandsFor.{IsRefusal}
-use Rattle.irr_close.proofs.Standing.{contained_place, stands_for_generated}
+use Rattle.irr_close.proofs.Standing.{whole_in, difference_in, contained_place, stands_for_generated}
 use Rattle.irr_close.proofs.Seeds.{seed_generated, few_of_seeds, few_kept}
 use Rattle.irr_close.proofs.Rotating.{few_along, seeded_all, kept_all, HasGeneratedRotation}
 
-first_of : {X : Type 0} (xs : List X) → 0 < length xs → X
+pub first_of : {X : Type 0} (xs : List X) → 0 < length xs → X
 first_of [] h = absurd (omega arith)
 first_of (x ∷ xs) h = x
 
@@ -134,3 +137,28 @@ accepted gs seeds kept cs inv s partial products lattice settled small = record 
   denominator = small;
   centrings = few_centrings gs seeds kept cs inv s partial products lattice settled;
 }
+
+pub is_closing : (gs seeds kept : List Op) (cs : List Vec3) → AreInvertible gs → AreSeeds gs seeds (length gs) → IsPartial seeds kept
+    → All (λ g. HasProducts kept (operation g).rotation seeds (length seeds)) kept → IsPartialLattice gs cs → IsSettled gs kept cs (length cs) → HasSmallDenominator gs → IsClosing kept cs
+is_closing gs seeds kept cs inv s partial products lattice settled small =
+    let all = kept_all gs seeds kept inv s partial products in
+    let e = first_of cs lattice.nonempty in
+    record {
+      nonempty = partial.nonempty;
+      identity_first = partial.identity_first;
+      few = partial.few;
+      reduced = λ k d l. record { within = (all k d l).within; in_cell = (all k d l).in_cell };
+      distinct = partial.distinct;
+      has_centring = lattice.nonempty;
+      few_centrings = lattice.few;
+      in_cell = λ k d l. (lattice.centrings k d l).in_cell;
+      distinct_centrings = lattice.distinct;
+      lattice = record { whole = whole_in gs kept cs lattice settled e; difference = difference_in gs kept cs lattice settled e };
+      denominator = record {
+        common = small.common;
+        positive = small.positive;
+        small = small.small;
+        kept_divide = λ k d l. (all k d l).divides small.common small.positive small.multiple;
+        divide = λ k d l. (lattice.centrings k d l).divides small.common small.positive small.multiple;
+      };
+    }

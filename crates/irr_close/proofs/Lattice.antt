@@ -92,7 +92,7 @@ quotient_whole a b c d h k i = subst IsWhole (entry rationals (a.at i first) (b.
     entry : (R : Ring) (x y z w : R.Carrier) → R.add (R.add x (R.neg y)) (R.add (R.add y (R.neg z)) (R.neg w)) ≡ R.add (R.add x (R.neg z)) (R.neg w)
     entry R x y z w = simp (ring_laws, R)
 
-near_one : (a b c : Vector) → IsWholeVector (a ⊖ c) → IsWholeVector (b ⊖ c) → IsWholeVector (a ⊖ b)
+pub near_one : (a b c : Vector) → IsWholeVector (a ⊖ c) → IsWholeVector (b ⊖ c) → IsWholeVector (a ⊖ b)
 unfolding component ◌⊖◌
 near_one a b c h j i = subst IsWhole (entry rationals (a.at i first) (b.at i first) (c.at i first)) (whole-add _ _ (h i) (whole-neg _ (j i)))
   where

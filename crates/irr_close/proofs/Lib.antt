@@ -13,3 +13,10 @@ pub mod Multiples
 pub mod Rotating
 pub mod Bareness
 pub mod Unimodular
+pub mod Sorting
+pub mod Numbering
+pub mod LeastVectors
+pub mod CanonicalLists
+pub mod CanonicalForm
+pub mod Untruncated
+pub mod Members

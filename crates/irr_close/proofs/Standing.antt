@@ -1,5 +1,6 @@
 -- The kept operations and translations of a closing stand for exactly the generated operations.
 --   rotation_of_generated      each generated rotation is kept
+--   whole_in, difference_in    the translations have the whole vectors and the differences
 --   stands_for_generated       the kept operations and translations stand for the generated operations, and for no other
 use Rattle.std.proofs.Common.{◌≡◌, sym, ◌∙◌, ap, subst, refl, ℕ, ◌<◌, ◌↔◌, inl, inr, List, length, get_or, arith}
 use Rattle.std.specs.List.{All, AllPairs, Contains}
@@ -88,7 +89,7 @@ regrouped a b c e f p q r i = subst IsWhole (entry rationals (a.at i first) (b.a
 
 -- a list of translations with 0 and with its differences
 module _ (gs kept : List Op) (cs : List Vec3) (lattice : IsPartialLattice gs cs) (settled : IsSettled gs kept cs (length cs)) (e : Vec3) where
-  whole_in : (v : Vector) → IsWholeVector v → HasTranslation cs v
+  pub whole_in : (v : Vector) → IsWholeVector v → HasTranslation cs v
   whole_in v h = (0, lattice.nonempty, λ f. subst IsWholeVector (sym (ap (λ (w : Vector). v ⊖ w) (lattice.zero_first f) ∙ sub-null v)) h)
 
   listed_difference : (i j : ℕ) → i < length cs → j < length cs → HasTranslation cs (vector (get_or cs i e) ⊖ vector (get_or cs j e))
@@ -97,7 +98,7 @@ module _ (gs kept : List Op) (cs : List Vec3) (lattice : IsPartialLattice gs cs)
     | inr more ↦ (settled.differences i l e j more e).0
   ]
 
-  difference_in : (a b : Vector) → HasTranslation cs a → HasTranslation cs b → HasTranslation cs (a ⊖ b)
+  pub difference_in : (a b : Vector) → HasTranslation cs a → HasTranslation cs b → HasTranslation cs (a ⊖ b)
   difference_in a b p q = let t = listed_difference p.0 q.0 p.1 q.1 in
       (t.0, t.1, λ f. regrouped a b (vector (get_or cs p.0 e)) (vector (get_or cs q.0 e)) (vector (get_or cs t.0 f)) (p.2 e) (q.2 e) (t.2 f))
 

@@ -4,5 +4,6 @@ pub mod Limits
 pub mod Closing
 pub mod Centring
 pub mod Standing
+pub mod Canonical
 pub mod Bare
 pub mod StandsFor

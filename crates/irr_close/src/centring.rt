@@ -80,6 +80,24 @@ pub fn has(centrings: &[Vec3], v: &Vec3) -> bool
     false
 }
 
+/// Whether two vectors of the unit cell differ by a translation of the list.
+pub fn is_apart(centrings: &[Vec3], a: &Vec3, b: &Vec3) -> bool
+    requires in_cell { IsInCell (vector a.now) }
+    requires other_in_cell { IsInCell (vector b.now) }
+    requires small { a.now.den ≤ 100000 }
+    requires centrings { All (λ c. IsInCell (vector c)) centrings.now }
+    requires denominators { All (λ c. c.den ≤ 100000) centrings.now }
+    requires common { All (λ c. (m : ℕ) → IsLcm a.now.den c.den m → m ≤ 100000) centrings.now }
+    ensures { IsTrue result ↔ HasTranslation centrings.now (vector a.now ⊖ vector b.now) }
+{
+    for centring in centrings {
+        if is_same(&difference(a, centring), b) {
+            return true;
+        }
+    }
+    false
+}
+
 /// Keeps a vector where it is new.
 pub fn add(centrings: &mut Vec<Vec3>, v: Vec3) -> Result<(), CloseError>
     ensures kept { OnOk result (IsWithCentring centrings.old.items v centrings.new.items) }

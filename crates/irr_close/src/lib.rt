@@ -4,13 +4,17 @@
 ghost use Rattle.std.specs.Prelude.{◌≡◌};
 ghost use Rattle.irr_close.specs.declared.CloseError.TheVariants.{Memory};
 
+mod canonical;
 mod centring;
 mod closing;
 mod denominator;
+mod generation;
 mod group;
 mod rotation;
 
-pub use group::{Group, close};
+pub use generation::close;
+pub use group::Group;
+pub use irr_memory::Memory;
 use std::alloc::{AllocError, AllocFailed};
 use thiserror::Error;
 

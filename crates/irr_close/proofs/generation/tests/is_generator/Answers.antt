@@ -6,7 +6,7 @@ use Rattle.irr_algebra.specs.Fin.{to_nat}
 use Rattle.irr_rational.specs.Ratio.{entry}
 use Rattle.irr_rat.proofs.Vectors.{each_of_three}
 use Rattle.irr_seitz.specs.OperationMeaning.{AreWithin}
-use Rattle.irr_close.proofs.group.tests.is_generator.Goals as goal
+use Rattle.irr_close.proofs.generation.tests.is_generator.Goals as goal
 
 read : (x : ℤ) → FitsSigned w64 x → unsigned_abs (to_z w64 (of_z w64 x)) ≤ 10 ^ 12 → unsigned_abs x ≤ 10 ^ 12
 read x f h = subst (λ y. unsigned_abs y ≤ 10 ^ 12) (to_z-of_z w64 x f) h

@@ -1,15 +1,17 @@
-use Rattle.std.proofs.Common.{◌≡◌, sym, subst, true, length, rules}
+use Rattle.std.proofs.Common.{◌≡◌, ◌↔◌, sym, subst, true, length, rules}
 use Rattle.std.specs.List.{All, HoldsAt}
 use Rattle.irr_algebra.specs.Matrix.{◌·◌}
 use Rattle.irr_seitz.specs.OperationMeaning.{operation}
 use Rattle.irr_close.specs.Closing.{IsKept, HasRotation, AreSeeds}
 use Rattle.irr_close.specs.Centring.{IsSettled}
+use Rattle.irr_close.specs.Standing.{StandFor}
+use Rattle.irr_close.specs.Canonical.{IsClosing}
 use Rattle.irr_close.specs.Bare.{AreBare}
 use Rattle.irr_close.specs.StandsFor.{stands_for, IsRefusal}
 use Rattle.irr_close.proofs.Rotating.{seeds_numbers, seeds_small, kept_all, kept_generators, kept_products}
-use Rattle.irr_close.proofs.Bareness.{bare_numbers, bare_small, bare_refused, bare_few, seeds_refusal, centrings_refusal, group_stands, accepted}
+use Rattle.irr_close.proofs.Bareness.{bare_numbers, bare_small, bare_refused, bare_few, seeds_refusal, centrings_refusal, group_stands, is_closing, accepted}
 use Rattle.irr_close.proofs.Unimodular.{are_invertible}
-use Rattle.irr_close.proofs.group.close.Goals as goal
+use Rattle.irr_close.proofs.generation.close.Goals as goal
 
 pub close_centrings-requires-clause-invertible : goal.close_centrings-requires-clause-invertible
 close_centrings-requires-clause-invertible c = are_invertible c.args.generators.now c.requires.unimodular
@@ -56,10 +58,16 @@ returns-in_err-centrings-clause-refused c =
     let r : IsRefusal c.args.generators.now c.in_err-centrings.field-0.0 = centrings_refusal c.args.generators.now c.deref-2.result.now c.in_ok-ops.ops.items c.in_err-centrings.field-0.0 (are_invertible c.args.generators.now c.requires.unimodular) (subst (λ xs. AreSeeds c.args.generators.now xs (length c.args.generators.now)) (sym c.deref-2.ensures.value) c.in_ok-seeds.ensures.seeds) c.in_ok-ops.ensures.partial c.in_ok-ops.ensures.products (c.have_small_denominator.ensures.0 (let t : c.have_small_denominator.result ≡ true = c.if-not-have_small_denominator.false in t)) c.in_err-centrings.ensures.refused in
     search rules
 
+pub new-requires : goal.new-requires
+new-requires c = subst (λ xs. IsClosing xs c.in_ok-centrings.centrings.items) (sym c.as_slice.ensures.value) (is_closing c.args.generators.now c.deref-2.result.now c.in_ok-ops.ops.items c.in_ok-centrings.centrings.items (are_invertible c.args.generators.now c.requires.unimodular) (subst (λ xs. AreSeeds c.args.generators.now xs (length c.args.generators.now)) (sym c.deref-2.ensures.value) c.in_ok-seeds.ensures.seeds) c.in_ok-ops.ensures.partial c.in_ok-ops.ensures.products c.in_ok-centrings.ensures.lattice
+    (subst (λ xs. IsSettled c.args.generators.now xs c.in_ok-centrings.centrings.items (length c.in_ok-centrings.centrings.items)) c.deref-3.ensures.value c.in_ok-centrings.ensures.settled) (c.have_small_denominator.ensures.0 (let t : c.have_small_denominator.result ≡ true = c.if-not-have_small_denominator.false in t)))
+
 pub returns-clause-group : goal.returns-clause-group
-unfolding stands_for
-returns-clause-group c = group_stands c.args.generators.now c.deref-2.result.now c.in_ok-ops.ops.items c.in_ok-centrings.centrings.items (are_invertible c.args.generators.now c.requires.unimodular) (subst (λ xs. AreSeeds c.args.generators.now xs (length c.args.generators.now)) (sym c.deref-2.ensures.value) c.in_ok-seeds.ensures.seeds) c.in_ok-ops.ensures.partial c.in_ok-ops.ensures.products c.in_ok-centrings.ensures.lattice
-    (subst (λ xs. IsSettled c.args.generators.now xs c.in_ok-centrings.centrings.items (length c.in_ok-centrings.centrings.items)) c.deref-3.ensures.value c.in_ok-centrings.ensures.settled)
+returns-clause-group c = λ g.
+    let stands = group_stands c.args.generators.now c.deref-2.result.now c.in_ok-ops.ops.items c.in_ok-centrings.centrings.items (are_invertible c.args.generators.now c.requires.unimodular) (subst (λ xs. AreSeeds c.args.generators.now xs (length c.args.generators.now)) (sym c.deref-2.ensures.value) c.in_ok-seeds.ensures.seeds) c.in_ok-ops.ensures.partial c.in_ok-ops.ensures.products c.in_ok-centrings.ensures.lattice
+    (subst (λ xs. IsSettled c.args.generators.now xs c.in_ok-centrings.centrings.items (length c.in_ok-centrings.centrings.items)) c.deref-3.ensures.value c.in_ok-centrings.ensures.settled) g in
+    let made = subst (λ xs. stands_for c.in_ok-group.group g ↔ StandFor xs c.in_ok-centrings.centrings.items g) c.as_slice.ensures.value (c.in_ok-group.ensures.group g) in
+    (λ h. stands.0 (made.0 h), λ h. made.1 (stands.1 h))
 
 pub returns-clause-accepted : goal.returns-clause-accepted
 returns-clause-accepted c = accepted c.args.generators.now c.deref-2.result.now c.in_ok-ops.ops.items c.in_ok-centrings.centrings.items (are_invertible c.args.generators.now c.requires.unimodular) (subst (λ xs. AreSeeds c.args.generators.now xs (length c.args.generators.now)) (sym c.deref-2.ensures.value) c.in_ok-seeds.ensures.seeds) c.in_ok-ops.ensures.partial c.in_ok-ops.ensures.products c.in_ok-centrings.ensures.lattice
