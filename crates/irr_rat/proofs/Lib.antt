@@ -6,3 +6,4 @@ pub mod Reduction
 pub mod Fractions
 pub mod FractionTexts
 pub mod PrintedFractions
+pub mod CommonDenominators

@@ -1,6 +1,7 @@
 //! Exact fractions, and vectors of three fractions over a common denominator.
 #![tactic(auto)]
 
+mod common;
 mod divisors;
 mod fraction;
 mod lowest;
@@ -8,6 +9,7 @@ mod printed;
 mod ratio;
 mod vec3;
 
+pub use common::over_common_denominator;
 pub use divisors::{gcd, lcm_checked};
 pub use fraction::Fraction;
 pub use lowest::lowest_terms;

@@ -1,3 +1,6 @@
 pub mod TermTexts
 pub mod TermShapes
 pub mod TermReading
+pub mod ConstantReading
+pub mod ComponentReading
+pub mod TripletReading

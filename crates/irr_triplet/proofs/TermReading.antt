@@ -79,7 +79,7 @@ size_lack k zero l h ne le = All-cons (λ b. b ≢ k) l [] ne (λ i d lt. absurd
 size_lack k (suc zero) l h ne le = All-cons (λ b. b ≢ k) l [] ne (λ i d lt. absurd (omega arith))
 size_lack k (suc (suc n)) l h ne le = All-cons (λ b. b ≢ k) (50 + n) (l ∷ []) (λ e. omega arith) (All-cons (λ b. b ≢ k) l [] ne (λ i d lt. absurd (omega arith)))
 
-letter_lack : (c : ℤ) (k l : ℕ) (rest : List ℕ) → 57 < k → l ≢ k → unsigned_abs c ≤ 9 → All (λ b. b ≢ k) rest → All (λ b. b ≢ k) (letter_text c l ++ rest)
+pub letter_lack : (c : ℤ) (k l : ℕ) (rest : List ℕ) → 57 < k → l ≢ k → unsigned_abs c ≤ 9 → All (λ b. b ≢ k) rest → All (λ b. b ≢ k) (letter_text c l ++ rest)
 unfolding letter_text
 letter_lack (pos zero) k l rest h ne le all = all
 letter_lack (pos (suc n)) k l rest h ne le all = subst (λ t. All (λ b. b ≢ k) (t ++ rest)) (sym (letter_text-above (suc n) l (omega arith) le))

@@ -100,7 +100,7 @@ sum_text-front (negsuc zero) l rest h = refl
 sum_text-front (negsuc (suc n)) l rest h = refl
 
 -- the rest, grouped as the definition groups it
-regroup : (x y z q : List ℕ) → x ++ (y ++ (z ++ q)) ≡ x ++ y ++ z ++ q
+pub regroup : (x y z q : List ℕ) → x ++ (y ++ (z ++ q)) ≡ x ++ y ++ z ++ q
 regroup x y z q = simp append_assoc
 
 regroup_two : (y z q : List ℕ) → y ++ (z ++ q) ≡ y ++ z ++ q

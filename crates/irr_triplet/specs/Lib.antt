@@ -2,3 +2,4 @@ pub mod Letters
 pub mod Terms
 pub mod Shapes
 pub mod Readable
+pub mod Rows

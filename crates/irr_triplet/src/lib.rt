@@ -3,10 +3,12 @@
 
 mod component;
 mod print;
+mod printed;
 mod read;
 mod term;
 
 pub use print::print_triplet;
+pub use printed::printed_triplet;
 
 #[cfg(test)]
 mod tests;

@@ -11,7 +11,7 @@ pub(crate) struct Terms<'a> {
 }
 
 // The sign at the front, whether it is `-`, and the bytes behind it.
-fn sign<'a>(terms: Terms<'a>) -> Option<(bool, &'a [u8])>
+pub(crate) fn sign<'a>(terms: Terms<'a>) -> Option<(bool, &'a [u8])>
     ensures found { IfSome result (λ r. signed_of terms.entry.plus terms.entry.text.now ≡ sign_byte r.0 ∷ r.1.now) }
     ensures none { IsNone result → (negative : Bool) (rest : List ℕ) → ¬ (signed_of terms.entry.plus terms.entry.text.now ≡ sign_byte negative ∷ rest) }
 {

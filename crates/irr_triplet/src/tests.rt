@@ -1,4 +1,4 @@
-use crate::print_triplet;
+use crate::{print_triplet, printed_triplet};
 use irr_rat::Vec3;
 use irr_seitz::Op;
 use std::test::Fail;
@@ -43,4 +43,37 @@ fn operations_print_as_triplets(rt: HostRuntime) -> Result<(), Fail> {
         assert_eq!(rt; printed.as_slice(), text.as_bytes(), "at {text}");
     }
     Ok(())
+}
+
+#[test]
+fn printed_triplets_are_read(rt: HostRuntime) {
+    for (op, text) in operations() {
+        assert!(rt; printed_triplet(text.as_bytes()) == Some(op), "at {text}");
+    }
+}
+
+#[test]
+fn no_other_text_is_a_printed_triplet(rt: HostRuntime) {
+    for text in [
+        "",
+        "x,y",
+        "x,y,z,",
+        "+x,y,z",
+        "x,y+x,z",
+        "X,y,z",
+        "x, y,z",
+        "x+2/4,y,z",
+        "x+1/1,y,z",
+        "x+0,y,z",
+        "1x,y,z",
+        "10x,y,z",
+        "x,y,2z",
+        "x,x,z",
+        "0,y,z",
+        "x+1/1000,y+1/1001,z",
+        "x+100001,y,z",
+        "'x,y,z'",
+    ] {
+        assert!(rt; printed_triplet(text.as_bytes()).is_none(), "at {text}");
+    }
 }
