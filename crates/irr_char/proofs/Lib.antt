@@ -5,3 +5,6 @@ pub mod RowForms
 pub mod PlaceOrders
 pub mod RowLists
 pub mod MadeForms
+pub mod Traces
+pub mod AverageTerms
+pub mod ScalarProducts

@@ -1,10 +1,13 @@
 -- A whole number in canonical form, and the rank of a projection.
 --   terms_of_whole            the terms of the number k
+--   whole_le_size             the number k is at most its size
+--   first_term, no_term       k, read off its terms
 --   rank_of_term, rank_of_no_term     the rank, read off the terms of the trace
 --   rank_of_projection        a projection has a rank, which is its trace and at most its size
 use Rattle.std.proofs.Common.{◌≡◌, sym, ◌∙◌, ap, ap₂, subst, refl, ℕ, ℤ, pos, zero, suc, ◌-◌, ◌*ℤ◌, ◌/◌, ◌%◌, ◌^◌, ◌<◌, ◌≤◌, List, [], ◌++◌, Some, None, arith}
 use Rattle.std.specs.Prelude.{slice_get}
 use Rattle.std.proofs.lemmas.List.{append-nil}
+use Rattle.std.specs.Int.RustNames.{unsigned_abs}
 use native.Mathlib.Nat as Nat
 use Rattle.irr_algebra.specs.Fin.{Fin}
 use Rattle.irr_algebra.specs.Ring.{whole}
@@ -25,7 +28,8 @@ use Rattle.irr_number.proofs.RootPowers.{root_power-zero}
 use Rattle.irr_rational.proofs.Integers.{integer-pos}
 use Rattle.irr_canonical.proofs.Forms.{canonical_of_number}
 use Rattle.irr_canonical.proofs.Operations.{IsCanonical-over, over-root, over-scale}
-use Rattle.irr_canonical.specs.Coefficient.{canonical, over}
+use Rattle.irr_canonical.specs.Coefficient.{canonical, over, size}
+use Rattle.irr_canonical.proofs.Sizes.{term-le}
 use Rattle.irr_canonical.specs.Reduction.{IsInBasis}
 use Rattle.irr_cyc.specs.Terms.{nonzero_terms, term}
 use Rattle.irr_mat.specs.Rank.{HasRank}
@@ -92,6 +96,12 @@ terms_of_whole (suc n) h k x e = only_first_term n (canonical (suc n) x).num.at 
     above zero p = absurd (omega arith)
     above (suc j) p = refl
 
+pub whole_le_size : (N : ℕ) → 0 < N → (k : ℕ) (x : Number N) → x ≡ whole (numbers N) k → k ≤ size N x
+unfolding size whole_coefficients
+whole_le_size N h k x e = subst (λ m. m ≤ size N x)
+    (ap unsigned_abs (ap (λ f. f.num.at 0) (canonical-whole N h k x e) ∙ at-element N (whole_coefficients k) 0 h))
+    (term-le N 0 (λ j. unsigned_abs ((canonical N x).num.at j)) h)
+
 -- a projection has a rank, and its trace is this number
 pub rank_of_projection : (N : ℕ) (h : 0 < N) (n : ℕ) (a : Matrix (numbers N) n n) → a · a ≡ a → (k : ℕ) × (HasRank a k × (trace a ≡ whole (numbers N) k) × (k ≤ n))
 rank_of_projection N h n a e =
@@ -111,12 +121,12 @@ some_inj : {A : Type 0} {x y : A} → Some x ≡ Some y → x ≡ y
 some_inj e = cc
 
 -- the one term of a whole number
-first_term : (k : ℕ) (ts : List (ℕ × ℤ)) (t : ℕ × ℤ) → ts ≡ term 0 (pos k) → slice_get ts 0 ≡ Some t → t.1 ≡ pos k
+pub first_term : (k : ℕ) (ts : List (ℕ × ℤ)) (t : ℕ × ℤ) → ts ≡ term 0 (pos k) → slice_get ts 0 ≡ Some t → t.1 ≡ pos k
 unfolding term
 first_term zero ts t e s = absurd (none-ne-some (sym (ap (λ us. slice_get us 0) e) ∙ s))
 first_term (suc k) ts t e s = ap (λ (u : ℕ × ℤ). u.1) (some_inj (sym s ∙ ap (λ us. slice_get us 0) e))
 
-no_term : (k : ℕ) (ts : List (ℕ × ℤ)) → ts ≡ term 0 (pos k) → slice_get ts 0 ≡ None → k ≡ 0
+pub no_term : (k : ℕ) (ts : List (ℕ × ℤ)) → ts ≡ term 0 (pos k) → slice_get ts 0 ≡ None → k ≡ 0
 unfolding term
 no_term zero ts e s = refl
 no_term (suc k) ts e s = absurd (none-ne-some (sym s ∙ ap (λ us. slice_get us 0) e))
