@@ -24,3 +24,4 @@ pub mod Orbits
 pub mod Returns
 pub mod RotationGroups
 pub mod Exponents
+pub mod Along
