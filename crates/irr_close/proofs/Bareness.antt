@@ -37,7 +37,7 @@ use Rattle.irr_close.specs.Canonical.{IsClosing}
 use Rattle.irr_close.specs.StandsFor.{IsRefusal}
 use Rattle.irr_close.proofs.Standing.{whole_in, difference_in, contained_place, stands_for_generated}
 use Rattle.irr_close.proofs.Seeds.{seed_generated, few_of_seeds, few_kept}
-use Rattle.irr_close.proofs.Rotating.{few_along, seeded_all, kept_all, HasGeneratedRotation}
+use Rattle.irr_close.proofs.Rotating.{kept_rotations, few_along, seeded_all, kept_all, HasGeneratedRotation}
 
 pub first_of : {X : Type 0} (xs : List X) → 0 < length xs → X
 first_of [] h = absurd (omega arith)
@@ -154,6 +154,7 @@ is_closing gs seeds kept cs inv s partial products lattice settled small =
       in_cell = λ k d l. (lattice.centrings k d l).in_cell;
       distinct_centrings = lattice.distinct;
       lattice = record { whole = whole_in gs kept cs lattice settled e; difference = difference_in gs kept cs lattice settled e };
+      rotations = kept_rotations gs seeds kept inv s partial products;
       denominator = record {
         common = small.common;
         positive = small.positive;

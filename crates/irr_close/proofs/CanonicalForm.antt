@@ -5,21 +5,22 @@
 --   centred, translated                     a translation of the list
 --   canonical_stands                        the numbered operations and the sorted translations stand for the same
 --   are_canonical                           and are the canonical form of what they stand for
-use Rattle.std.proofs.Common.{◌≡◌, refl, sym, ◌∙◌, ap, subst, ℕ, ◌<◌, ◌↔◌, List, length, get_or, arith}
+use Rattle.std.proofs.Common.{◌≡◌, refl, sym, ◌∙◌, ap, subst, subst₂, ℕ, ◌<◌, ◌↔◌, List, length, get_or, arith}
 use Rattle.std.specs.List.{All, AllPairs, HoldsAt}
 use Rattle.std.specs.Int.{◌∣◌}
 use Rattle.std.proofs.lemmas.List.{get_or_default}
 use Rattle.std.proofs.lemmas.List.Sorted.{All-permutation, IsPermutation-sym, length_permutation}
 use Rattle.irr_algebra.specs.Fin.{to_nat}
 use Rattle.irr_algebra.specs.Ring.{Ring}
-use Rattle.irr_algebra.specs.Matrix.{◌⊕◌, ◌⊖◌, null}
+use Rattle.irr_number.specs.Integers.{integers}
+use Rattle.irr_algebra.specs.Matrix.{◌·◌, unit, ◌⊕◌, ◌⊖◌, null}
 use Rattle.irr_algebra.proofs.Indices.{from_nat, to_nat-from_nat, to_nat-lt}
 use Rattle.irr_algebra.proofs.Rings.{ring_laws}
 use Rattle.irr_algebra.proofs.Matrices.{matrix-ext, sub-null, sub_self}
 use Rattle.irr_rational.specs.Rational.{rationals}
 use Rattle.irr_rational.specs.Order.{IsAtMost, IsBelow}
 use Rattle.irr_rational.proofs.Lexicographic.{at_most_antisymm}
-use Rattle.irr_space.specs.Operation.{Operation, Vector, component, identity, translation}
+use Rattle.irr_space.specs.Operation.{Operation, Vector, component, identity, translation, Rotation}
 use Rattle.irr_space.specs.CanonicalOperation.{IsInCell, IsCanonicalOperation, IsNumbering, IsNumberedBefore}
 use Rattle.irr_rat.specs.VectorMeaning.{vector}
 use Rattle.irr_rat.specs.declared.vec3.Vec3.{Vec3}
@@ -30,9 +31,10 @@ use Rattle.irr_seitz.specs.declared.op.Op.{Op}
 use Rattle.irr_seitz.proofs.Vectors.{operation-ext}
 use Rattle.irr_kvec.specs.Centrings.{AreCentrings, IsCentred}
 use Rattle.irr_close.specs.Whole.{IsWholeVector}
+use Rattle.irr_close.specs.Closing.{HasRotation}
 use Rattle.irr_close.specs.Centring.{HasTranslation, AreOverOne}
 use Rattle.irr_close.specs.Standing.{StandFor}
-use Rattle.irr_close.specs.Canonical.{IsCanonicalOf, IsNumberedFrom, IsSortedFrom, IsLattice, IsClosing, AreCanonical, numbered}
+use Rattle.irr_close.specs.Canonical.{IsCanonicalOf, IsNumberedFrom, IsSortedFrom, IsLattice, IsRotationGroup, IsClosing, AreCanonical, numbered}
 use Rattle.irr_close.proofs.Sorting.{exists_permuted}
 use Rattle.irr_close.proofs.Closure.{null_whole, sum_as_difference}
 use Rattle.irr_close.proofs.Standing.{same_index}
@@ -211,6 +213,20 @@ module _ (kept : List Op) (cs : List Vec3) (closing : IsClosing kept cs) (ops : 
     difference = λ a b p q. forth_translation cs new (a ⊖ b) sorted (closing.lattice.difference a b (back_translation cs new a sorted p) (back_translation cs new b sorted q));
   }
 
+  -- the rotations are those of the kept operations
+  rotation_forth : (R : Rotation) → HasRotation kept R → HasRotation ops R
+  rotation_forth R h = let n = number_of h.0 h.1 in (n.0, n.1, λ f. (n.2 f).rotation ∙ h.2 d)
+
+  rotations : IsRotationGroup ops
+  rotations = record {
+    has_unit = rotation_forth (unit integers 3) closing.rotations.has_unit;
+    products = λ k f l j b m. let n = kept_of k f l in let p = kept_of j b m in
+        subst₂ (λ (R S : Rotation). HasRotation ops (R · S)) (sym n.2.rotation) (sym p.2.rotation)
+        (rotation_forth ((operation (get_or kept n.0 d)).rotation · (operation (get_or kept p.0 d)).rotation) (closing.rotations.products n.0 d n.1 p.0 d p.1));
+    inverses = λ k f l. let n = kept_of k f l in let t = closing.rotations.inverses n.0 d n.1 in let o = number_of t.0 t.1 in
+        (o.0, o.1, λ b. subst₂ (λ (R S : Rotation). R · S ≡ unit integers 3) (sym n.2.rotation) (sym (o.2 b).rotation) (t.2 d));
+  }
+
   pub are_canonical : AreCanonical ops new
   are_canonical = record {
     nonempty = (let a = long in let b = closing.nonempty in omega arith);
@@ -222,4 +238,5 @@ module _ (kept : List Op) (cs : List Vec3) (closing : IsClosing kept cs) (ops : 
     within = λ k f l. let n = kept_of k f l in subst (IsWithin 9) (sym n.2.rotation) (closing.reduced n.0 d n.1).within;
     denominator = ∣ over ∣₁;
     lattice = lattice;
+    rotations = rotations;
   }

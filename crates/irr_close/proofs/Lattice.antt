@@ -1,5 +1,6 @@
 -- Lists of translations as one more is looked at.
 --   invertible_generated        generated rotations have inverses where the generators' have
+--   inverse_operation           an operation whose rotation has an inverse has one
 --   translation_between         the translation between two generated operations with one rotation is generated
 --   divisor_small, lcm_small    numbers that divide a small one, and their least common multiple
 --   quotient_whole              differences by whole vectors, one after the other
@@ -67,7 +68,7 @@ invertible_operations gs inv s m = some gs inv m.0 (subst (λ n. m.0 < n) (lengt
     some (x ∷ xs) inv k l e = subst (λ (g : Operation). (S : Rotation) × (g.rotation · S ≡ unit integers 3)) (sym (get_or-map operation (x ∷ xs) k x s l) ∙ e) (inv k x l)
 
 -- an operation whose rotation has an inverse has one
-inverse_operation : (g : Operation) (S : Rotation) → g.rotation · S ≡ unit integers 3 → (h : Operation) × IsInverse g h
+pub inverse_operation : (g : Operation) (S : Rotation) → g.rotation · S ≡ unit integers 3 → (h : Operation) × IsInverse g h
 inverse_operation g S e = (record { rotation = S; vector = null ⊖ (whole_matrix rationals S · g.vector) }, inverse_of g (record { rotation = S; vector = null ⊖ (whole_matrix rationals S · g.vector) }) e (adjoint-mul g.rotation S e) refl)
 
 pub translation_between : (gs : List Op) → AreInvertible gs → (g m : Operation) → m.rotation ≡ g.rotation → Generated (operations gs) g → Generated (operations gs) m → Generated (operations gs) (translation (g.vector ⊖ m.vector))

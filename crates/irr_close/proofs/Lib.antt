@@ -20,3 +20,8 @@ pub mod CanonicalLists
 pub mod CanonicalForm
 pub mod Untruncated
 pub mod Members
+pub mod Orbits
+pub mod Returns
+pub mod RotationGroups
+pub mod Exponents
+pub mod Along

@@ -3,6 +3,7 @@
 --   distinct_numbered                            different places have different rotations
 --   has_rotation, rotation_has                   the rotations of its operations
 --   cell_at, cells                               its vectors are in the cell
+--   canonical_of                                 each rotation has its canonical operation
 --   member_at                                    membership by the place of the rotation
 use Rattle.std.proofs.Common.{◌≡◌, sym, ◌∙◌, ap, subst, subst₂, ℕ, ◌<◌, ◌≤◌, ◌↔◌, List, length, get_or, arith}
 use Rattle.std.proofs.Math.Logic.{∥∥₁_elim}
@@ -11,7 +12,7 @@ use Rattle.std.proofs.lemmas.List.{get_or_default}
 use Rattle.irr_algebra.specs.Matrix.{◌⊖◌}
 use Rattle.irr_algebra.proofs.Indices.{from_nat, to_nat-from_nat}
 use Rattle.irr_space.specs.Operation.{Operation, Rotation, Vector}
-use Rattle.irr_space.specs.CanonicalOperation.{IsInCell, IsNumberedBefore}
+use Rattle.irr_space.specs.CanonicalOperation.{IsCanonicalOperation, IsInCell, IsNumberedBefore}
 use Rattle.irr_rat.specs.Lcm.{IsLcm}
 use Rattle.irr_rat.specs.VectorMeaning.{vector}
 use Rattle.irr_rat.specs.declared.vec3.Vec3.{Vec3}
@@ -81,3 +82,10 @@ module _ (ops : List Op) (cs : List Vec3) (form : AreCanonical ops cs) where
 
 pub rotation_has : (ops : List Op) (cs : List Vec3) (g : Operation) → StandFor ops cs g → HasRotation ops g.rotation
 rotation_has ops cs g s = (s.0, s.1, λ f. sym (s.2 f).0)
+
+-- each rotation of the group has its canonical operation
+pub canonical_of : (ops : List Op) (cs : List Vec3) → AreCanonical ops cs → (g : Operation) → StandFor ops cs g → (c : Operation) × IsCanonicalOperation (StandFor ops cs) c × (c.rotation ≡ g.rotation)
+canonical_of ops cs form g s =
+    let d = first_of ops form.nonempty in
+    let i = from_nat (length ops) s.0 s.1 in
+    (numbered ops d i, (form.numbering d).canonical i, ap (λ n. (operation (get_or ops n d)).rotation) (to_nat-from_nat (length ops) s.0 s.1) ∙ sym (s.2 d).0)

@@ -4,8 +4,11 @@
 --   seeds_small            the seeds have a small common denominator where the generators do
 --   seeds_numbers          and small numbers
 --   seeded_all             each generator has a seed
+--   kept_rotations         their rotations are a group
 --   kept_generators, kept_products   the kept operations have the products with the generators and with each other
-use Rattle.std.proofs.Common.{◌≡◌, sym, ◌∙◌, ap, subst, refl, ℕ, List, length, get_or}
+use Rattle.irr_close.proofs.Lattice.{invertible_generated, invertible_operations, inverse_operation}
+use Rattle.irr_close.specs.Canonical.{IsRotationGroup}
+use Rattle.std.proofs.Common.{◌≡◌, sym, ◌∙◌, ap, subst, refl, ℕ, List, length, get_or, ◌<◌}
 use Rattle.std.specs.List.{All, Contains, HoldsAt}
 use Rattle.std.specs.Int.{◌∣◌}
 use Rattle.irr_algebra.specs.Matrix.{◌·◌, ◌⊖◌, unit, null}
@@ -78,6 +81,10 @@ seeds_numbers gs seeds from all k d l = let h = from k d l in subst IsGenerator 
 pub seeded_all : (gs seeds : List Op) → AreSeeds gs seeds (length gs) → All (λ s. HasRotation seeds (operation s).rotation) gs
 seeded_all gs seeds s k d l = s.seeded k l d
 
+identity_rotation : identity.rotation ≡ unit integers 3
+unfolding identity
+identity_rotation = refl
+
 module _ (gs seeds kept : List Op) (inv : AreInvertible gs) (s : AreSeeds gs seeds (length gs)) (partial : IsPartial seeds kept)
     (products : All (λ g. HasProducts kept (operation g).rotation seeds (length seeds)) kept) where
   pub kept_all : All (IsKept gs) kept
@@ -91,3 +98,17 @@ module _ (gs seeds kept : List Op) (inv : AreInvertible gs) (s : AreSeeds gs see
 
   pub kept_products : All (λ g. All (λ h. HasRotation kept ((operation g).rotation · (operation h).rotation)) kept) kept
   kept_products j d l k f m = has_product d (operation (get_or kept j d)) (operation (get_or kept k f)) (kept_all j d l).generated (kept_all k f m).generated
+
+  kept_inverse : (d : Op) (g : Operation) → Generated (operations gs) g → (k : ℕ) × (k < length kept) × HoldsAt (λ h. g.rotation · (operation h).rotation ≡ unit integers 3) kept k
+  kept_inverse d g p =
+      let a = invertible_generated (operations gs) (invertible_operations gs inv) p in
+      let t = inverse_operation g a.0 a.1 in
+      let r = rotation_of_generated gs seeds kept inv (seeded_all gs seeds s) partial products d t.0 (inverse t.1 p) in
+      (r.0, r.1, λ f. ap (λ (R : Rotation). g.rotation · R) (r.2 f) ∙ sym (product-rotation g t.0) ∙ ap (λ (h : Operation). h.rotation) t.1.right ∙ identity_rotation)
+
+  pub kept_rotations : IsRotationGroup kept
+  kept_rotations = record {
+    has_unit = (0, partial.nonempty, λ f. ap (λ (g : Operation). g.rotation) (partial.identity_first f) ∙ identity_rotation);
+    products = kept_products;
+    inverses = λ k d l. kept_inverse d (operation (get_or kept k d)) (kept_all k d l).generated;
+  }

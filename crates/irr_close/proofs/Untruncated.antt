@@ -1,13 +1,15 @@
 -- What is known to hold of a group is given as data: each part of it is decided.
 --   translation_or_not, stand_or_not     membership is decided
 --   untruncated                          the canonical form of a group, from the knowledge that it is one
+use Rattle.std.specs.List.{HoldsAt}
 use Rattle.std.proofs.Common.{◌≡◌, sym, ◌∙◌, ap, subst, ℕ, zero, suc, ◌<◌, ◌≤◌, ◌⊎◌, inl, inr, List, length, get_or, arith, unsigned_abs}
 use Rattle.std.proofs.Math.Logic.{∥∥₁_elim}
 use Rattle.std.proofs.lemmas.Bool.{cases_lt}
 use Rattle.std.proofs.lemmas.List.{get_or_default}
 use Rattle.irr_algebra.specs.Fin.{Fin}
 use Rattle.irr_algebra.specs.Fin.Fin.{first, next}
-use Rattle.irr_algebra.specs.Matrix.{◌⊖◌}
+use Rattle.irr_number.specs.Integers.{integers}
+use Rattle.irr_algebra.specs.Matrix.{◌·◌, unit, ◌⊖◌}
 use Rattle.irr_algebra.proofs.Indices.{from_nat, to_nat-from_nat}
 use Rattle.irr_rational.specs.Rational.{Rational, rationals, IsWhole}
 use Rattle.irr_rational.specs.Order.{◌≤ℚ◌, ◌<ℚ◌, IsAtMost, IsBelow}
@@ -24,6 +26,7 @@ use Rattle.irr_seitz.specs.declared.op.Op.{Op}
 use Rattle.irr_seitz.proofs.RotationOrder.{below_irrefl}
 use Rattle.irr_kvec.specs.Centrings.{AreCentrings}
 use Rattle.irr_close.specs.Whole.{IsWholeVector}
+use Rattle.irr_close.specs.Closing.{HasRotation}
 use Rattle.irr_close.specs.Centring.{HasTranslation}
 use Rattle.irr_close.specs.Standing.{StandFor}
 use Rattle.irr_close.specs.Canonical.{AreCanonical, numbered}
@@ -50,7 +53,7 @@ stable_at_most : (v w : Vector) → ¬ (¬ (IsAtMost (component v) (component w)
 stable_at_most v w h = elim (at_most_or_above 3 (component v) (component w)) [ inl l ↦ l | inr k ↦ absurd (h (λ l. not_below_of_at_most (component v) (component w) l k)) ]
 
 -- a search below n
-search_below : (P : ℕ → Type 0) → ((k : ℕ) → P k ⊎ ¬ (P k)) → (n : ℕ) → ((k : ℕ) × (k < n) × P k) ⊎ ((k : ℕ) → k < n → ¬ (P k))
+pub search_below : (P : ℕ → Type 0) → ((k : ℕ) → P k ⊎ ¬ (P k)) → (n : ℕ) → ((k : ℕ) × (k < n) × P k) ⊎ ((k : ℕ) → k < n → ¬ (P k))
 search_below P decide zero = inr (λ k l. absurd (omega arith))
 search_below P decide (suc n) = elim (decide n) [
   | inl p ↦ inl (n, omega arith, p)
@@ -78,7 +81,7 @@ translation_or_not cs e t = elim (search_below (λ k. IsWholeVector (t ⊖ vecto
   | inr none ↦ inr (λ h. none h.0 h.1 (h.2 e))
 ]
 
-same_or_not : (R S : Rotation) → (R ≡ S) ⊎ ¬ (R ≡ S)
+pub same_or_not : (R S : Rotation) → (R ≡ S) ⊎ ¬ (R ≡ S)
 same_or_not R S = elim (rotation_cases R S) [
   | inl b ↦ inr (λ u. below_irrefl R S u b)
   | inr c ↦ elim c [ inl e ↦ inl e | inr b ↦ inr (λ u. below_irrefl S R (sym u) b) ]
@@ -99,7 +102,19 @@ stand_or_not ops cs d e g = elim (search_below P decide (length ops)) [
       | inl same ↦ elim (translation_or_not cs e (g.vector ⊖ (operation (get_or ops k d)).vector)) [ inl t ↦ inl (same, t) | inr denied ↦ inr (λ h. denied h.1) ]
     ]
 
-stable : {A : Type 0} → A ⊎ ¬ A → ¬ (¬ A) → A
+rotation_or_not : (ops : List Op) (d : Op) (R : Rotation) → HasRotation ops R ⊎ ¬ (HasRotation ops R)
+rotation_or_not ops d R = elim (search_below (λ k. (operation (get_or ops k d)).rotation ≡ R) (λ k. same_or_not (operation (get_or ops k d)).rotation R) (length ops)) [
+  | inl s ↦ inl (s.0, s.1, λ f. subst (λ (x : Op). (operation x).rotation ≡ R) (get_or_default ops s.0 d f s.1) s.2)
+  | inr none ↦ inr (λ h. none h.0 h.1 (h.2 d))
+]
+
+inverse_or_not : (ops : List Op) (d : Op) (R : Rotation) → ((k : ℕ) × (k < length ops) × HoldsAt (λ h. R · (operation h).rotation ≡ unit integers 3) ops k) ⊎ ¬ ((k : ℕ) × (k < length ops) × HoldsAt (λ h. R · (operation h).rotation ≡ unit integers 3) ops k)
+inverse_or_not ops d R = elim (search_below (λ k. R · (operation (get_or ops k d)).rotation ≡ unit integers 3) (λ k. same_or_not (R · (operation (get_or ops k d)).rotation) (unit integers 3)) (length ops)) [
+  | inl s ↦ inl (s.0, s.1, λ f. subst (λ (x : Op). R · (operation x).rotation ≡ unit integers 3) (get_or_default ops s.0 d f s.1) s.2)
+  | inr none ↦ inr (λ h. none h.0 h.1 (h.2 d))
+]
+
+pub stable : {A : Type 0} → A ⊎ ¬ A → ¬ (¬ A) → A
 stable (inl a) h = a
 stable (inr denied) h = absurd (h denied)
 
@@ -167,6 +182,11 @@ module _ (ops : List Op) (cs : List Vec3) (form : ∥ AreCanonical ops cs ∥₁
     centrings = centrings;
     within = λ k f l i j. stable_le (unsigned_abs ((operation (get_or ops k f)).rotation.at i j)) 9 (know (λ t. t.within k f l i j));
     denominator = ∥∥₁_elim form squash₁ (λ t. t.denominator);
+    rotations = record {
+      has_unit = stable (rotation_or_not ops (first_of ops nonempty) (unit integers 3)) (know (λ t. t.rotations.has_unit));
+      products = λ k f l j b m. stable (rotation_or_not ops f ((operation (get_or ops k f)).rotation · (operation (get_or ops j b)).rotation)) (know (λ t. t.rotations.products k f l j b m));
+      inverses = λ k f l. stable (inverse_or_not ops f (operation (get_or ops k f)).rotation) (know (λ t. t.rotations.inverses k f l));
+    };
     lattice = record {
       whole = λ v h. in_list v (know (λ t. t.lattice.whole v h));
       difference = λ a b p q. in_list (a ⊖ b) (know (λ t. t.lattice.difference a b p q));

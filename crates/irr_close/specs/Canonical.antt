@@ -5,6 +5,7 @@
 --   IsNumberedFrom cs ops new      new are the operations of ops with their least vectors, numbered
 --   IsSortedFrom old new      new are the vectors of old in lexicographic order
 --   IsLattice cs              the vectors that differ from one of the list by a whole one are closed under differences
+--   IsRotationGroup ops       the rotations have the unit, products and inverses
 --   IsClosing kept cs         one operation for each rotation, the identity first, and different translations
 --   numbered ops d            operations by their places, d past the end
 --   AreCanonical ops cs       the canonical operations, numbered, and the centrings, of what they stand for
@@ -13,7 +14,8 @@ use Rattle.std.specs.List.{All, AllPairs, HoldsAt}
 use Rattle.std.specs.List.Sorted.{IsPermutation}
 use Rattle.std.specs.Int.{◌∣◌}
 use Rattle.irr_algebra.specs.Fin.{Fin, to_nat}
-use Rattle.irr_algebra.specs.Matrix.{◌⊖◌}
+use Rattle.irr_algebra.specs.Matrix.{◌·◌, ◌⊖◌, unit}
+use Rattle.irr_number.specs.Integers.{integers}
 use Rattle.irr_rational.specs.Order.{IsAtMost, IsBelow}
 use Rattle.irr_space.specs.Operation.{Operation, Vector, component, identity}
 use Rattle.irr_space.specs.CanonicalOperation.{IsInCell, IsNumberedBefore, IsNumbering}
@@ -24,6 +26,7 @@ use Rattle.irr_seitz.specs.OperationMeaning.{operation}
 use Rattle.irr_seitz.specs.declared.op.Op.{Op}
 use Rattle.irr_kvec.specs.Centrings.{AreCentrings}
 use Rattle.irr_close.specs.Whole.{IsWholeVector}
+use Rattle.irr_close.specs.Closing.{HasRotation}
 use Rattle.irr_close.specs.Centring.{HasTranslation, AreOverOne, IsReducedOperation}
 use Rattle.irr_close.specs.Standing.{StandFor}
 
@@ -55,6 +58,11 @@ pub record IsLattice (cs : List Vec3) : Type 0 where
   pub whole : (v : Vector) → IsWholeVector v → HasTranslation cs v
   pub difference : (a b : Vector) → HasTranslation cs a → HasTranslation cs b → HasTranslation cs (a ⊖ b)
 
+pub record IsRotationGroup (ops : List Op) : Type 0 where
+  pub has_unit : HasRotation ops (unit integers 3)
+  pub products : All (λ g. All (λ h. HasRotation ops ((operation g).rotation · (operation h).rotation)) ops) ops
+  pub inverses : All (λ g. (k : ℕ) × (k < length ops) × HoldsAt (λ h. (operation g).rotation · (operation h).rotation ≡ unit integers 3) ops k) ops
+
 pub record IsClosing (kept : List Op) (cs : List Vec3) : Type 0 where
   pub nonempty : 0 < length kept
   pub identity_first : HoldsAt (λ g. operation g ≡ identity) kept 0
@@ -67,6 +75,7 @@ pub record IsClosing (kept : List Op) (cs : List Vec3) : Type 0 where
   pub distinct_centrings : AllPairs (λ a b. ¬ (vector a ≡ vector b)) cs
   pub lattice : IsLattice cs
   pub denominator : AreOverOne kept cs
+  pub rotations : IsRotationGroup kept
 
 abbrev pub numbered : (ops : List Op) → Op → Fin (length ops) → Operation
 numbered ops d i = operation (slice_index_or ops (to_nat i) d)
@@ -81,3 +90,4 @@ pub record AreCanonical (ops : List Op) (cs : List Vec3) : Type 0 where
   pub within : All (λ g. IsWithin 9 (operation g).rotation) ops
   pub denominator : ∥ AreOverOne ops cs ∥₁
   pub lattice : IsLattice cs
+  pub rotations : IsRotationGroup ops

@@ -7,3 +7,4 @@ pub mod Standing
 pub mod Canonical
 pub mod Bare
 pub mod StandsFor
+pub mod Exponent

@@ -3,7 +3,7 @@ ghost use Rattle.irr_close.specs.Canonical.{AreCanonical};
 
 use crate::centring::{is_apart, shift};
 use crate::closing::place;
-use crate::{CloseError, canonical};
+use crate::{CloseError, canonical, exponent};
 use irr_memory::Memory;
 use irr_rat::Vec3;
 use irr_seitz::{Op, Phase};
@@ -23,6 +23,7 @@ impl Group {
     ghost use Rattle.std.specs.Prelude.{ℕ, ◌≡◌, ◌<◌, ◌≤◌, ◌↔◌, List, length, IfOk, IfErr, IfSome, IsNone, IsTrue};
     ghost use Rattle.std.specs.List.{HoldsAt};
     ghost use Rattle.irr_space.specs.Operation.{Operation};
+    ghost use Rattle.irr_space.specs.SpaceGroup.{IsExponent};
     ghost use Rattle.irr_space.specs.CanonicalOperation.{IsNumbering};
     ghost use Rattle.irr_seitz.specs.Rotation.{rotation_of};
     ghost use Rattle.irr_seitz.specs.OperationMeaning.{operation};
@@ -99,6 +100,15 @@ impl Group {
             ),
             None => false,
         }
+    }
+
+    /// The least positive number to which the power of each rotation is the unit: the least common multiple of
+    /// the orders of the rotations. It is at most 48.
+    pub fn exponent(&self) -> u32
+        ensures exponent { IsExponent (stands_for self.now) result }
+        ensures small { result ≤ 48 }
+    {
+        exponent::exponent(self.ops.as_slice())
     }
 
     /// An equal group. The error is want of memory.

@@ -8,13 +8,16 @@ mod canonical;
 mod centring;
 mod closing;
 mod denominator;
+mod exponent;
 mod generation;
 mod group;
+mod laws;
 mod rotation;
 
 pub use generation::close;
 pub use group::Group;
 pub use irr_memory::Memory;
+pub use laws::{generated_groups, groups_of_generators};
 use std::alloc::{AllocError, AllocFailed};
 use thiserror::Error;
 

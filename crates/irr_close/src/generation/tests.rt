@@ -341,6 +341,35 @@ fn members_and_places_of_a_screw_axis(rt: HostRuntime) {
     }
 }
 
+fn exponent_of(group: &Option<Group>) -> Option<u32> {
+    match group {
+        Some(group) => Some(group.exponent()),
+        None => None,
+    }
+}
+
+#[test]
+fn exponents_are_least_common_multiples_of_orders(rt: HostRuntime) {
+    let alloc = rt.alloc();
+    let cycle = op([[0, 0, 1], [1, 0, 0], [0, 1, 0]], [0, 0, 0], 1);
+    let fourfold = op([[0, -1, 0], [1, 0, 0], [0, 0, 1]], [0, 0, 1], 4);
+    assert_eq!(rt; exponent_of(&closed(alloc, &[])), Some(1));
+    assert_eq!(rt; exponent_of(&closed(alloc, &[fourfold])), Some(4));
+    let i213 = [
+        op(UNIT, [1, 1, 1], 2),
+        op([[-1, 0, 0], [0, -1, 0], [0, 0, 1]], [1, 0, 1], 2),
+        op([[-1, 0, 0], [0, 1, 0], [0, 0, -1]], [0, 1, 1], 2),
+        cycle,
+    ];
+    assert_eq!(rt; exponent_of(&closed(alloc, &i213)), Some(6));
+    let pm3m = [
+        op([[0, -1, 0], [1, 0, 0], [0, 0, 1]], [0, 0, 0], 1),
+        cycle,
+        op([[-1, 0, 0], [0, -1, 0], [0, 0, -1]], [0, 0, 0], 1),
+    ];
+    assert_eq!(rt; exponent_of(&closed(alloc, &pm3m)), Some(12));
+}
+
 #[test]
 fn limits(rt: HostRuntime) {
     let alloc = rt.alloc();
