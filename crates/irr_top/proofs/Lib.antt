@@ -1,4 +1,3 @@
-pub mod CommonTerms
 pub mod WaveForms
 pub mod WaveReading
 pub mod WordPlaces

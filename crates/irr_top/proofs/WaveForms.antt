@@ -8,7 +8,7 @@
 --   wave_of_parts            a wave vector of three fractions in lowest terms is within the limits, and its text is theirs
 --   same_components          wave vectors of the same components are the same
 --   wave_text_unique         a text is that of one wave vector at most
-use Rattle.std.proofs.Common.{◌≡◌, ◌≢◌, refl, sym, ◌∙◌, ap, ap₂, subst, ℕ, ◌<◌, ◌≤◌, ℤ, List, ◌∷◌, ◌++◌, append_assoc, arith, lit≤}
+use Rattle.std.proofs.Common.{◌≡◌, ◌≢◌, refl, sym, ◌∙◌, ap, ap₂, subst, ℕ, ◌≤◌, ℤ, List, ◌∷◌, ◌++◌, append_assoc, arith, lit≤}
 use Rattle.std.specs.List.{All}
 use Rattle.std.specs.Int.{◌∣◌}
 use Rattle.std.specs.Int.RustNames.{unsigned_abs}
@@ -19,9 +19,7 @@ use Rattle.irr_algebra.proofs.Indices.{only_first}
 use Rattle.irr_algebra.proofs.Matrices.{matrix-ext}
 use Rattle.irr_rational.specs.Rational.{ratio}
 use Rattle.irr_rational.specs.Ratio.{IsLowest, entry, ratios}
-use Rattle.irr_rational.proofs.Ratios.{over_of_ratio}
 use Rattle.irr_rational.proofs.ListedRatios.{ratios-at}
-use Rattle.irr_rational.proofs.WholeNumbers.{dvd_of_multiples}
 use Rattle.irr_canonical.specs.Coefficient.{denominator}
 use Rattle.irr_space.specs.Operation.{WaveVector, wave_component}
 use Rattle.irr_text.specs.NumberText.{numerator, rational_text, fraction_text}
@@ -29,6 +27,7 @@ use Rattle.irr_text.specs.WaveText.{wave_text, IsWithinLimits}
 use Rattle.irr_text.proofs.RationalForm.{numerator-lowest, rational_text-lowest, numerator_is_lowest}
 use Rattle.irr_rat.specs.Lowest.{AreThreeLowest}
 use Rattle.irr_kvec.specs.WaveMeaning.{wave_of}
+use Rattle.irr_rat.proofs.CommonDenominators.{denominator_divides}
 use Rattle.irr_rat.proofs.FractionTexts.{split_unique, fraction_text_lack, fraction_unique}
 
 pub component-is : (xs : List ℤ) (d : ℕ) (i : Fin 3) → wave_component (wave_of xs d) i ≡ ratios xs d i
@@ -46,11 +45,6 @@ part-is k i = refl
 pub wave_text-parts : (k : WaveVector) → wave_text k ≡ part k first ++ 44 ∷ (part k (next first) ++ 44 ∷ part k (next (next first)))
 unfolding wave_text
 wave_text-parts k = append_assoc (part k first) (44 ∷ part k (next first)) (44 ∷ part k (next (next first)))
-
--- a denominator in lowest terms divides each other denominator
-denominator-dvd : (a c : ℤ) (b d : ℕ) → IsLowest a b → 0 < d → ratio c d ≡ ratio a b → b ∣ d
-denominator-dvd a c b d low h e = dvd_of_multiples {m = 1} (λ _. a) b d (record { positive = low.positive; lowest = λ g v each. low.lowest g v (each first) })
-    (λ _. record { number = c; is = over_of_ratio (ratio a b) c d h e })
 
 -- a component's text is that of a fraction in lowest terms, whose numbers are within the limit
 pub record PartForm (m : ℕ) (k : WaveVector) (i : Fin 3) : Type 0 where
@@ -77,7 +71,7 @@ part_form m k h i = record {
     low = numerator_is_lowest (wave_component k i)
 
     divides : denominator 1 (wave_component k i) ∣ h.den
-    divides = denominator-dvd (numerator (wave_component k i)) (h.num i) (denominator 1 (wave_component k i)) h.den low.0 h.lowest.positive (sym (h.are i) ∙ sym low.1)
+    divides = denominator_divides (numerator (wave_component k i)) (h.num i) (denominator 1 (wave_component k i)) h.den low.0 h.lowest.positive (sym (h.are i) ∙ sym low.1)
 
 pub comma_lack : (a : ℤ) (b : ℕ) → unsigned_abs a ≤ 100000 → b ≤ 100000 → All (λ x. x ≢ 44) (fraction_text a b)
 comma_lack a b ha hb = fraction_text_lack 44 a b (lit≤ tt) (λ e. omega arith) (λ e. omega arith) (omega arith) (omega arith)

@@ -53,17 +53,20 @@ size_first : (n l : ℕ) (rest : List ℕ) → 57 < l → with_sign (size_text (
 size_first zero l rest h = plus_first l rest (λ e. omega arith)
 size_first (suc n) l rest h = plus_first (50 + n) (l ∷ rest) (λ e. omega arith)
 
-letter_first : (c : ℤ) (l : ℕ) (rest : List ℕ) → 57 < l → unsigned_abs c ≤ 9 → c ≢ pos 0 → with_sign (sum_text (letter_text c l ++ rest)) ≡ letter_text c l ++ rest
+letter_first : (c : ℤ) (l : ℕ) (rest : List ℕ) → 57 < l → unsigned_abs c ≤ 9 → c ≢ pos 0
+    → with_sign (sum_text (letter_text c l ++ rest)) ≡ letter_text c l ++ rest
 unfolding sum_text
 letter_first (pos zero) l rest h le ne = absurd (ne refl)
-letter_first (pos (suc n)) l rest h le ne = subst (λ t. with_sign (sum_text (t ++ rest)) ≡ t ++ rest) (sym (letter_text-above (suc n) l (omega arith) le)) (size_first n l rest h)
+letter_first (pos (suc n)) l rest h le ne = subst (λ t. with_sign (sum_text (t ++ rest)) ≡ t ++ rest) (sym (letter_text-above (suc n) l (omega arith) le))
+    (size_first n l rest h)
 letter_first (negsuc n) l rest h le ne = subst (λ t. with_sign (sum_text (t ++ rest)) ≡ t ++ rest) (sym (letter_text-below n l le)) refl
 
 from_z : (z a : ℤ) (b : ℕ) → unsigned_abs z ≤ 9 → ¬ (z ≡ pos 0) → with_sign (sum_text (terms_of (pos 0) (pos 0) z a b)) ≡ terms_of (pos 0) (pos 0) z a b
 unfolding letter_text
 from_z z a b hz some = letter_first z 122 (signed_fraction a b) (omega arith) hz some
 
-from_y : (y z a : ℤ) (b : ℕ) → unsigned_abs y ≤ 9 → unsigned_abs z ≤ 9 → ¬ ((y ≡ pos 0) × (z ≡ pos 0)) → with_sign (sum_text (terms_of (pos 0) y z a b)) ≡ terms_of (pos 0) y z a b
+from_y : (y z a : ℤ) (b : ℕ) → unsigned_abs y ≤ 9 → unsigned_abs z ≤ 9 → ¬ ((y ≡ pos 0) × (z ≡ pos 0))
+    → with_sign (sum_text (terms_of (pos 0) y z a b)) ≡ terms_of (pos 0) y z a b
 unfolding letter_text
 from_y (pos zero) z a b hy hz some = from_z z a b hz (λ e. some (refl, e))
 from_y (pos (suc n)) z a b hy hz some = letter_first (pos (suc n)) 121 (letter_text z 122 ++ signed_fraction a b) (omega arith) hy (λ e. cc)
@@ -73,22 +76,27 @@ pub signs_of_sum : (x y z a : ℤ) (b : ℕ) → unsigned_abs x ≤ 9 → unsign
     → with_sign (sum_text (terms_of x y z a b)) ≡ terms_of x y z a b
 unfolding letter_text
 signs_of_sum (pos zero) y z a b hx hy hz some = from_y y z a b hy hz (λ e. some (refl, e.0, e.1))
-signs_of_sum (pos (suc n)) y z a b hx hy hz some = letter_first (pos (suc n)) 120 (letter_text y 121 ++ (letter_text z 122 ++ signed_fraction a b)) (omega arith) hx (λ e. cc)
-signs_of_sum (negsuc n) y z a b hx hy hz some = letter_first (negsuc n) 120 (letter_text y 121 ++ (letter_text z 122 ++ signed_fraction a b)) (omega arith) hx (λ e. cc)
+signs_of_sum (pos (suc n)) y z a b hx hy hz some = letter_first (pos (suc n)) 120 (letter_text y 121 ++ (letter_text z 122 ++ signed_fraction a b)) (omega
+    arith) hx (λ e. cc)
+signs_of_sum (negsuc n) y z a b hx hy hz some = letter_first (negsuc n) 120 (letter_text y 121 ++ (letter_text z 122 ++ signed_fraction a b)) (omega arith)
+    hx (λ e. cc)
 
 -- what is read is the component's
 
 kept_terms : (x y z a : ℤ) (b : ℕ) → unsigned_abs x ≤ 9 → unsigned_abs y ≤ 9 → unsigned_abs z ≤ 9
     → terms_text x y z a b ≡ terms_text (to_z w16 (of_z w16 x)) (to_z w16 (of_z w16 y)) (to_z w16 (of_z w16 z)) a b
-kept_terms x y z a b hx hy hz = ap₂ (λ s t. terms_text s t z a b) (sym (kept_small x hx)) (sym (kept_small y hy)) ∙ ap (λ s. terms_text (to_z w16 (of_z w16 x)) (to_z w16 (of_z w16 y)) s a b) (sym (kept_small z hz))
+kept_terms x y z a b hx hy hz = ap₂ (λ s t. terms_text s t z a b) (sym (kept_small x hx)) (sym (kept_small y hy))
+    ∙ ap (λ s. terms_text (to_z w16 (of_z w16 x)) (to_z w16 (of_z w16 y)) s a b) (sym (kept_small z hz))
 
 pub found_of_terms : (text terms rest : List ℕ) (x y z a : ℤ) (b : ℕ) → unsigned_abs x ≤ 9 → unsigned_abs y ≤ 9 → unsigned_abs z ≤ 9 → terms ≡ with_sign text
     → terms ≡ letter_text x 120 ++ (letter_text y 121 ++ (letter_text z 122 ++ rest)) → rest ≡ signed_fraction a b
     → text ≡ terms_text (to_z w16 (of_z w16 x)) (to_z w16 (of_z w16 y)) (to_z w16 (of_z w16 z)) a b
-found_of_terms text terms rest x y z a b hx hy hz e f g = sym (sum_of_signs text) ∙ ap sum_text (sym e ∙ f ∙ ap (λ t. letter_text x 120 ++ (letter_text y 121 ++ (letter_text z 122 ++ t))) g)
+found_of_terms text terms rest x y z a b hx hy hz e f g = sym (sum_of_signs text) ∙ ap sum_text (sym e ∙ f
+    ∙ ap (λ t. letter_text x 120 ++ (letter_text y 121 ++ (letter_text z 122 ++ t))) g)
     ∙ terms_text-terms_of x y z a b ∙ kept_terms x y z a b hx hy hz
 
-pub found_of_constant : (text : List ℕ) (x y z a : ℤ) (b : ℕ) → unsigned_abs x ≤ 9 → unsigned_abs y ≤ 9 → unsigned_abs z ≤ 9 → IsLowest a b → (x ≡ pos 0) × (y ≡ pos 0) × (z ≡ pos 0) → text ≡ fraction_text a b
+pub found_of_constant : (text : List ℕ) (x y z a : ℤ) (b : ℕ) → unsigned_abs x ≤ 9 → unsigned_abs y ≤ 9 → unsigned_abs z ≤ 9 → IsLowest a b
+    → (x ≡ pos 0) × (y ≡ pos 0) × (z ≡ pos 0) → text ≡ fraction_text a b
     → text ≡ terms_text (to_z w16 (of_z w16 x)) (to_z w16 (of_z w16 y)) (to_z w16 (of_z w16 z)) a b
 found_of_constant text x y z a b hx hy hz low none e = e ∙ terms-none x y z a b low none.0 none.1 none.2 ∙ kept_terms x y z a b hx hy hz
 
@@ -103,13 +111,17 @@ lack_with_sign l (c ∷ cs) p all = at (nat_eq c 45)
     at false = All-cons (λ b. b ≢ l) 43 (c ∷ cs) p all
 
 -- a constant by itself has no letter
-pub no_letters : (text : List ℕ) (x y z a : ℤ) (b : ℕ) → IsLowest a b → unsigned_abs a ≤ 100000 → b ≤ 100000 → (x ≡ pos 0) × (y ≡ pos 0) × (z ≡ pos 0) → text ≡ terms_text x y z a b
+pub no_letters : (text : List ℕ) (x y z a : ℤ) (b : ℕ) → IsLowest a b → unsigned_abs a ≤ 100000 → b ≤ 100000 → (x ≡ pos 0) × (y ≡ pos 0) × (z ≡ pos 0)
+    → text ≡ terms_text x y z a b
     → (text ≡ fraction_text a b) × All (λ c. c ≢ 120) (with_sign text) × All (λ c. c ≢ 121) (with_sign text) × All (λ c. c ≢ 122) (with_sign text)
 no_letters text x y z a b low ha hb none e = (
   is,
-  lack_with_sign 120 text (λ p. omega arith) (subst (All (λ c. c ≢ 120)) (sym is) (fraction_text_lack 120 a b (lit≤ tt) (λ p. omega arith) (λ p. omega arith) (omega arith) (omega arith))),
-  lack_with_sign 121 text (λ p. omega arith) (subst (All (λ c. c ≢ 121)) (sym is) (fraction_text_lack 121 a b (lit≤ tt) (λ p. omega arith) (λ p. omega arith) (omega arith) (omega arith))),
-  lack_with_sign 122 text (λ p. omega arith) (subst (All (λ c. c ≢ 122)) (sym is) (fraction_text_lack 122 a b (lit≤ tt) (λ p. omega arith) (λ p. omega arith) (omega arith) (omega arith))),
+  lack_with_sign 120 text (λ p. omega arith) (subst (All (λ c. c ≢ 120)) (sym is) (fraction_text_lack 120 a b (lit≤ tt) (λ p. omega arith) (λ p. omega arith)
+      (omega arith) (omega arith))),
+  lack_with_sign 121 text (λ p. omega arith) (subst (All (λ c. c ≢ 121)) (sym is) (fraction_text_lack 121 a b (lit≤ tt) (λ p. omega arith) (λ p. omega arith)
+      (omega arith) (omega arith))),
+  lack_with_sign 122 text (λ p. omega arith) (subst (All (λ c. c ≢ 122)) (sym is) (fraction_text_lack 122 a b (lit≤ tt) (λ p. omega arith) (λ p. omega arith)
+      (omega arith) (omega arith))),
 )
   where
     is : text ≡ fraction_text a b
@@ -142,12 +154,15 @@ OnlyLetters terms rest x y z = (a b c : ℤ) (behind : List ℕ) → unsigned_ab
 
 -- the letters read are the component's, and what follows is its constant
 pub same_letters : (text terms rest : List ℕ) (p q r : ℤ) → terms ≡ with_sign text → OnlyLetters terms rest p q r
-    → (x y z a : ℤ) (b : ℕ) → unsigned_abs x ≤ 9 → unsigned_abs y ≤ 9 → unsigned_abs z ≤ 9 → IsLowest a b → unsigned_abs a ≤ 100000 → b ≤ 100000 → text ≡ terms_text x y z a b
-    → (p ≡ x) × (q ≡ y) × (r ≡ z) × ((p ≡ pos 0) × (q ≡ pos 0) × (r ≡ pos 0) → text ≡ fraction_text a b) × (¬ ((p ≡ pos 0) × (q ≡ pos 0) × (r ≡ pos 0)) → rest ≡ signed_fraction a b)
+    → (x y z a : ℤ) (b : ℕ) → unsigned_abs x ≤ 9 → unsigned_abs y ≤ 9 → unsigned_abs z ≤ 9 → IsLowest a b → unsigned_abs a ≤ 100000 → b ≤ 100000
+    → text ≡ terms_text x y z a b
+    → (p ≡ x) × (q ≡ y) × (r ≡ z) × ((p ≡ pos 0) × (q ≡ pos 0) × (r ≡ pos 0) → text ≡ fraction_text a b) × (¬ ((p ≡ pos 0) × (q ≡ pos 0) × (r ≡ pos 0))
+    → rest ≡ signed_fraction a b)
 same_letters text terms rest p q r e only x y z a b hx hy hz low ha hb f = elim (letters_stand x y z) [
   | absent none ↦ (
       let all = no_letters text x y z a b low ha hb none f in
-      let same = only (pos 0) (pos 0) (pos 0) terms (omega arith) (omega arith) (omega arith) (subst (All (λ c. c ≢ 120)) (sym e) all.1) (subst (All (λ c. c ≢ 121)) (sym e) all.2)
+      let same = only (pos 0) (pos 0) (pos 0) terms (omega arith) (omega arith) (omega arith) (subst (All (λ c. c ≢ 120)) (sym e) all.1) (subst (All (λ c. c
+      ≢ 121)) (sym e) all.2)
       (subst (All (λ c. c ≢ 122)) (sym e) all.3) (nothing_before terms) in
       (same.0 ∙ sym none.0, same.1 ∙ sym none.1, same.2 ∙ sym none.2, λ _. all.0, λ some. absurd (some (same.0, same.1, same.2)))
       )

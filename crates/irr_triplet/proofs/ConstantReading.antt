@@ -18,7 +18,7 @@ use Rattle.irr_rat.proofs.FractionTexts.{fraction_text_lack}
 use Rattle.irr_triplet.specs.Shapes.{sign_byte}
 
 -- whether a number is below 0
-abbrev is_negative : ℤ → Bool
+abbrev pub is_negative : ℤ → Bool
 is_negative (pos n) = false
 is_negative (negsuc n) = true
 
@@ -26,7 +26,7 @@ minus_front : (t : Bool) (xs ys : List ℕ) → (if t then 45 ∷ xs else (45 �
 minus_front true xs ys = refl
 minus_front false xs ys = refl
 
-signed_fraction-parts : (a : ℤ) (b : ℕ) → a ≢ pos 0 → signed_fraction a b ≡ sign_byte (is_negative a) ∷ fraction_text (pos (unsigned_abs a)) b
+pub signed_fraction-parts : (a : ℤ) (b : ℕ) → a ≢ pos 0 → signed_fraction a b ≡ sign_byte (is_negative a) ∷ fraction_text (pos (unsigned_abs a)) b
 unfolding signed_fraction
 signed_fraction-parts (pos zero) b ne = absurd (ne refl)
 signed_fraction-parts (pos (suc n)) b ne = refl
@@ -60,7 +60,8 @@ constant_parts text body negative a b e f = (ne, sign_same negative (is_negative
     parts = heads (sign_byte negative) (sign_byte (is_negative a)) body (fraction_text (pos (unsigned_abs a)) b) (sym e ∙ f ∙ signed_fraction-parts a b ne)
 
 -- a text without a sign at the front is that of 0
-pub no_constant : (text : List ℕ) (a : ℤ) (b : ℕ) → ((negative : Bool) (rest : List ℕ) → text ≡ sign_byte negative ∷ rest → ⊥) → text ≡ signed_fraction a b → text ≡ []
+pub no_constant : (text : List ℕ) (a : ℤ) (b : ℕ) → ((negative : Bool) (rest : List ℕ) → text ≡ sign_byte negative ∷ rest → ⊥) → text ≡ signed_fraction a b
+    → text ≡ []
 unfolding signed_fraction
 no_constant text (pos zero) b none e = e
 no_constant text (pos (suc n)) b none e = absurd (none false (fraction_text (pos (suc n)) b) e)
@@ -79,8 +80,10 @@ pub constant_found : (text body : List ℕ) (negative : Bool) (n m : ℤ) (b d :
 unfolding signed_fraction
 constant_found text body negative (pos zero) m b d e f h em ed = absurd (omega (arith, ints))
 constant_found text body negative (negsuc n) m b d e f h em ed = absurd (omega (arith, ints))
-constant_found text body false (pos (suc n)) m b d e f h em ed = e ∙ ap (λ s. 43 ∷ s) f ∙ ap (signed_fraction (pos (suc n))) (sym ed) ∙ ap (λ x. signed_fraction x d) (sym em)
-constant_found text body true (pos (suc n)) m b d e f h em ed = e ∙ ap (λ s. 45 ∷ s) f ∙ sym (signed_fraction-parts (negsuc n) b (λ x. cc)) ∙ ap (signed_fraction (negsuc n)) (sym ed) ∙ ap (λ x. signed_fraction x d) (sym em)
+constant_found text body false (pos (suc n)) m b d e f h em ed = e ∙ ap (λ s. 43 ∷ s) f ∙ ap (signed_fraction (pos (suc n))) (sym ed)
+    ∙ ap (λ x. signed_fraction x d) (sym em)
+constant_found text body true (pos (suc n)) m b d e f h em ed = e ∙ ap (λ s. 45 ∷ s) f ∙ sym (signed_fraction-parts (negsuc n) b (λ x. cc))
+    ∙ ap (signed_fraction (negsuc n)) (sym ed) ∙ ap (λ x. signed_fraction x d) (sym em)
 
 -- the number of a sign and a size
 pub constant_same : (negative : Bool) (a n m : ℤ) → negative ≡ is_negative a → n ≡ pos (unsigned_abs a) → m ≡ (if negative then neg_ℤ n else n) → m ≡ a
@@ -95,8 +98,10 @@ size_positive (negsuc k) n ne e = omega (arith, ints)
 pub size_lowest : (a : ℤ) (b : ℕ) → IsLowest a b → IsLowest (pos (unsigned_abs a)) b
 size_lowest a b low = record { positive = low.positive; lowest = low.lowest }
 
-pub constant_lack : (l : ℕ) (a : ℤ) (b : ℕ) → 10 ≤ digit_value l → 43 ≢ l → 45 ≢ l → 47 ≢ l → unsigned_abs a ≤ 100000 → b ≤ 100000 → All (λ x. x ≢ l) (signed_fraction a b)
+pub constant_lack : (l : ℕ) (a : ℤ) (b : ℕ) → 10 ≤ digit_value l → 43 ≢ l → 45 ≢ l → 47 ≢ l → unsigned_abs a ≤ 100000 → b ≤ 100000
+    → All (λ x. x ≢ l) (signed_fraction a b)
 unfolding signed_fraction
 constant_lack l (pos zero) b h p m s ha hb = λ k d lt. absurd (omega arith)
-constant_lack l (pos (suc n)) b h p m s ha hb = All-cons (λ x. x ≢ l) 43 (fraction_text (pos (suc n)) b) p (fraction_text_lack l (pos (suc n)) b h m s (omega arith) (omega arith))
+constant_lack l (pos (suc n)) b h p m s ha hb = All-cons (λ x. x ≢ l) 43 (fraction_text (pos (suc n)) b) p (fraction_text_lack l (pos (suc n)) b h m s (omega
+    arith) (omega arith))
 constant_lack l (negsuc n) b h p m s ha hb = fraction_text_lack l (negsuc n) b h m s (omega arith) (omega arith)

@@ -4,3 +4,4 @@ pub mod TermReading
 pub mod ConstantReading
 pub mod ComponentReading
 pub mod TripletReading
+pub mod UniqueTriplets

@@ -26,7 +26,7 @@ has_letter (suc zero) l s p all = All-head (λ b. b ≢ l) l s all refl
 has_letter (suc (suc n)) l s p all = All-head (λ b. b ≢ l) l s (All-tail (λ b. b ≢ l) (50 + n) (l ∷ s) all) refl
 
 -- so has a term whose coefficient is not 0
-term_has_letter : (c : ℤ) (l : ℕ) (s t : List ℕ) → unsigned_abs c ≤ 9 → c ≢ pos 0 → t ≡ letter_text c l ++ s → All (λ b. b ≢ l) t → ⊥
+pub term_has_letter : (c : ℤ) (l : ℕ) (s t : List ℕ) → unsigned_abs c ≤ 9 → c ≢ pos 0 → t ≡ letter_text c l ++ s → All (λ b. b ≢ l) t → ⊥
 term_has_letter (pos zero) l s t h ne e all = ne refl
 term_has_letter (pos (suc n)) l s t h ne e all = has_letter (suc n) l s (omega arith)
     (All-tail (λ b. b ≢ l) 43 (size_text (suc n) l ++ s) (subst (All (λ b. b ≢ l)) (e ∙ ap (λ x. x ++ s) (letter_text-above (suc n) l (omega arith) h)) all))

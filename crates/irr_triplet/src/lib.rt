@@ -2,11 +2,13 @@
 #![tactic(auto)]
 
 mod component;
+mod laws;
 mod print;
 mod printed;
 mod read;
 mod term;
 
+pub use laws::unique_triplets;
 pub use print::print_triplet;
 pub use printed::printed_triplet;
 

@@ -18,10 +18,12 @@ pub scaled-requires-2-clause-multiple : goal.scaled-requires-2-clause-multiple
 scaled-requires-2-clause-multiple c = Nat.dvd_trans c.args.y.den c.multiple.ensures.least.0 c.multiple-den.ensures.least.1
 
 pub scaled-requires-3-clause-multiple : goal.scaled-requires-3-clause-multiple
-scaled-requires-3-clause-multiple c = Nat.dvd_trans c.args.z.den (subst (λ t. t ∣ c.multiple.result) c.from.ensures c.multiple.ensures.least.1) c.multiple-den.ensures.least.1
+scaled-requires-3-clause-multiple c = Nat.dvd_trans c.args.z.den (subst (λ t. t ∣ c.multiple.result) c.from.ensures c.multiple.ensures.least.1)
+    c.multiple-den.ensures.least.1
 
 pub returns-clause-within : goal.returns-clause-within
-returns-clause-within c = lowest_below c.new.result.num _ c.new.result.den c.multiple-den.result 100000 c.new.result.lowest c.multiple-den.ensures.positive c.new.ensures (omega (arith, c.if-den-gt-LIMIT.false))
+returns-clause-within c = lowest_below c.new.result.num _ c.new.result.den c.multiple-den.result 100000 c.new.result.lowest c.multiple-den.ensures.positive
+    c.new.ensures (omega (arith, c.if-den-gt-LIMIT.false))
 
 pub returns-clause-components : goal.returns-clause-components
 returns-clause-components c = components_over _ c.scaled.result c.scaled-2.result c.scaled-3.result _ _ _ c.multiple-den.result _ _ _ c.new.ensures

@@ -41,8 +41,8 @@ returns-clause-only c = λ k h e.
     let ex = c.in_ok-printed_fraction.ensures.only f.num f.den f.lowest f.num_within f.den_within (parts.0 ∙ f.text) in
     let ey = c.in_ok-printed_fraction-2.ensures.only g.num g.den g.lowest g.num_within g.den_within (parts.1 ∙ g.text) in
     let ez = c.in_ok-printed_fraction-3.ensures.only i.num i.den i.lowest i.num_within i.den_within (parts.2 ∙ i.text) in
-    only_of_common k h (ratio x.num x.den) (ratio y.num y.den) (ratio z.num z.den) c.over_common_denominator.result
-    (ap₂ ratio ex.0 ex.1 ∙ f.is) (ap₂ ratio ey.0 ey.1 ∙ g.is) (ap₂ ratio ez.0 ez.1 ∙ i.is) c.over_common_denominator.ensures.components c.over_common_denominator.ensures.none
+    only_of_common k h (ratio x.num x.den) (ratio y.num y.den) (ratio z.num z.den) c.of_components.result
+    (ap₂ ratio ex.0 ex.1 ∙ f.is) (ap₂ ratio ey.0 ey.1 ∙ g.is) (ap₂ ratio ez.0 ez.1 ∙ i.is) c.of_components.ensures.components c.of_components.ensures.none
 
 pub returns-clause-found : goal.returns-clause-found
 returns-clause-found c =
@@ -50,6 +50,6 @@ returns-clause-found c =
     let y = c.in_ok-printed_fraction-2.field-0 in
     let z = c.in_ok-printed_fraction-3.field-0 in
     found_of_common c.args.word.now x.num y.num z.num x.den y.den z.den x.lowest y.lowest z.lowest x.within.0 y.within.0 z.within.0
-    c.over_common_denominator.result c.over_common_denominator.ensures.within c.over_common_denominator.ensures.components
+    c.of_components.result c.of_components.ensures.within c.of_components.ensures.components
     (c.in_ok-first.ensures.found ∙ ap₂ (λ (s t : List ℕ). s ++ 44 ∷ t) c.in_ok-printed_fraction.ensures.found
     (c.in_ok-second.ensures.found ∙ ap₂ (λ (s t : List ℕ). s ++ 44 ∷ t) c.in_ok-printed_fraction-2.ensures.found c.in_ok-printed_fraction-3.ensures.found))

@@ -1,0 +1,10 @@
+// Laws on printed triplets.
+ghost use Rattle.std.specs.Prelude.{◌≡◌};
+ghost use Rattle.irr_space.specs.Operation.{Operation};
+ghost use Rattle.irr_text.specs.TripletText.{triplet_text};
+ghost use Rattle.irr_triplet.specs.Readable.{IsReadable};
+
+/// A printed triplet is that of one operation at most, among those that can be read.
+pub fn unique_triplets()
+    ensures { (g h : Operation) → IsReadable g → IsReadable h → triplet_text g ≡ triplet_text h → g ≡ h }
+{}
