@@ -6,3 +6,6 @@ pub mod DigitOrder
 pub mod ExponentOrder
 pub mod ZeroDenominators
 pub mod LimitPlaces
+pub mod CommonDenominators
+pub mod ScaledTerms
+pub mod ReadNumbers

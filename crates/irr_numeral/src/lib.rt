@@ -1,16 +1,18 @@
 //! The text of a number: its printed form, and texts as they are read.
 #![tactic(auto)]
 
+mod denominator;
 mod limits;
 mod order;
 mod print;
 mod read;
+mod scaled;
 mod shape;
 mod terms;
 mod zero;
 
 pub use print::print_number;
-pub use read::NumberError;
+pub use read::{NumberError, read_number};
 
 #[cfg(test)]
 mod tests;

@@ -1,15 +1,21 @@
 // How a number's text is read.
 ghost use Rattle.std.specs.Prelude.{◌≡◌, ◌<◌, map, All, IfErr, IfOk};
 ghost use Rattle.irr_numeral.specs.NumberFault.{IsFault};
+ghost use Rattle.irr_numeral.specs.declared.read.NumberError.TheVariants.{Memory as no_memory};
 ghost use Rattle.irr_numeral.specs.NumberLimit.{IsWithin};
 ghost use Rattle.irr_numeral.specs.TermPlaces.{ArePlaced, HasZero, written_term};
 ghost use Rattle.irr_numeral.specs.WrittenNumber.{AreIncreasing, AreTerms, spelled};
+ghost use Rattle.irr_numeral.specs.WrittenValue.{IsReadAs};
 
+use crate::denominator::common_denominator;
 use crate::limits::first_beyond;
 use crate::order::first_unordered;
+use crate::scaled::{is_size_within, scaled_terms};
 use crate::shape::check_shape;
 use crate::terms::{Written, terms};
 use crate::zero::first_zero;
+use irr_cyc::{Order, Scalar};
+use irr_memory::Memory;
 use std::alloc::Global;
 use thiserror::Error;
 
@@ -28,6 +34,40 @@ pub enum NumberError {
     /// No memory was found.
     #[error("out of memory")]
     Memory,
+}
+
+impl From<Memory> for NumberError {
+    ghost from_gives = { λ _ e. e ≡ no_memory };
+
+    fn from(_error: Memory) -> NumberError {
+        NumberError::Memory
+    }
+}
+
+/// The number that a text writes, as a number of an order. The grammar and the places of errors are this
+/// project's own: terms `2/3*z^4` with signs, whose exponents increase; the limits hold for the numbers as
+/// they are written, for their least common denominator, and for the sum of the absolute numerators over it.
+pub fn read_number<S: Scalar>(
+    alloc: Global,
+    order: &Order,
+    text: &[u8],
+) -> Result<S, NumberError>
+    requires { S.admits order.now.n }
+    ensures order { IfOk result (λ x. S.order_of x ≡ order.now.n) }
+    ensures read { IfOk result (λ x. let n = order.now.n in IsReadAs n text.now (S.value n x)) }
+    ensures fault { IfErr result (λ e. IsFault order.now.n text.now e) }
+{
+    let read = read_terms(alloc, order.n(), text)?;
+    let terms = read.as_slice();
+    let Some(den) = common_denominator(terms) else {
+        return Err(NumberError::Range(text.len() as u64));
+    };
+    if !is_size_within(terms, den) {
+        return Err(NumberError::Range(text.len() as u64));
+    }
+    let scaled = scaled_terms(alloc, terms, order.n(), den)?;
+    let number = S::from_terms(alloc, order, den, scaled.as_slice())?;
+    Ok(number)
 }
 
 /// The terms of a number's text of the order n, whose exponents increase, whose denominators are not 0, and
