@@ -9,3 +9,4 @@ pub mod LimitPlaces
 pub mod CommonDenominators
 pub mod ScaledTerms
 pub mod ReadNumbers
+pub mod OneReading

@@ -2,6 +2,7 @@
 #![tactic(auto)]
 
 mod denominator;
+mod laws;
 mod limits;
 mod order;
 mod print;
@@ -11,6 +12,7 @@ mod shape;
 mod terms;
 mod zero;
 
+pub use laws::texts_read_in_one_way;
 pub use print::print_number;
 pub use read::{NumberError, read_number};
 
