@@ -3,7 +3,7 @@
 --   common-none       that of no terms is 1
 --   common-more       one term more
 --   common-beyond     where that of the first terms passes a limit, that of all does
-use Rattle.std.proofs.Common.{◌≡◌, sym, ◌∙◌, ap, subst, ℕ, zero, suc, Option, None, Some, IfSome, inl, inr, length-append, ◌<◌, ◌≤◌, ◌+◌, ◌*◌, List, [], ◌∷◌, ◌++◌, length, get_or, take, drop, map, All, arith}
+use Rattle.std.proofs.Common.{◌≡◌, sym, ◌∙◌, ap, subst, ℕ, zero, suc, Option, None, Some, IfSome, inl, inr, length-append, ◌<◌, ◌≤◌, ◌+◌, ◌*◌, List, [], ◌∷◌, ◌++◌, length, get_or, take, map, All, arith}
 use Rattle.std.specs.Int.{◌∣◌}
 use Rattle.std.proofs.lemmas.List.{get_or-map, length-map, get_or_append_left, take_all}
 use Rattle.std.proofs.Math.Seq.{take-suc, get_or-append_seam}
@@ -19,7 +19,8 @@ use Rattle.irr_numeral.specs.TermPlaces.{written_term}
 use Rattle.irr_numeral.specs.WrittenNumber.{WrittenTerm, IsDenominator}
 use Rattle.irr_numeral.specs.WrittenValue.{IsCommonDenominator, IsSmallTerm, denominator_of, denominator_value}
 
-pub front-more : (ws : List Written) (i : ℕ) (d : Written) → i < length ws → take (i + 1) (map written_term ws) ≡ take i (map written_term ws) ++ (written_term (get_or ws i d) ∷ [])
+pub front-more : (ws : List Written) (i : ℕ) (d : Written) → i < length ws
+    → take (i + 1) (map written_term ws) ≡ take i (map written_term ws) ++ (written_term (get_or ws i d) ∷ [])
 front-more ws i d lt =
     let next : i + 1 ≡ suc i = omega arith in
     ap (λ n. take n (map written_term ws)) next ∙ take-suc (map written_term ws) i (written_term d) (omega (arith, lt, length-map ws written_term))
@@ -43,10 +44,12 @@ all-last : (P : WrittenTerm → Type 0) (ts : List WrittenTerm) (t : WrittenTerm
 all-last P ts t h = subst P (get_or-append_seam ts t [] t) (h (length ts) t (omega (arith, length-append ts (t ∷ []))))
 
 -- a term at its place
-pub all-at : (P : WrittenTerm → Type 0) (ws : List Written) (i : ℕ) (d : Written) → All P (map written_term ws) → i < length ws → P (written_term (get_or ws i d))
+pub all-at : (P : WrittenTerm → Type 0) (ws : List Written) (i : ℕ) (d : Written) → All P (map written_term ws) → i < length ws
+    → P (written_term (get_or ws i d))
 all-at P ws i d h lt = subst P (get_or-map written_term ws i d (written_term d) lt) (h i (written_term d) (omega (arith, lt, length-map ws written_term)))
 
-pub common-more : (ts : List WrittenTerm) (t : WrittenTerm) (c m : ℕ) → IsCommonDenominator ts c → 0 < denominator_of t → IsLcm c (denominator_of t) m → 0 < m → IsCommonDenominator (ts ++ (t ∷ [])) m
+pub common-more : (ts : List WrittenTerm) (t : WrittenTerm) (c m : ℕ) → IsCommonDenominator ts c → 0 < denominator_of t → IsLcm c (denominator_of t) m
+    → 0 < m → IsCommonDenominator (ts ++ (t ∷ [])) m
 common-more ts t c m h p l q = record {
   positive = q;
   common = all-push (λ u. denominator_of u ∣ m) ts t (λ k d lt. dvd_trans (denominator_of (get_or ts k d)) (h.common k d lt) l.0) l.1;
@@ -81,7 +84,9 @@ pub lcm-positive : (a b m : ℕ) → 0 < a → 0 < b → IsLcm a b m → 0 < m
 lcm-positive a b m p q l = divisor_pos m (a * b) (Nat.mul-pos p q) (l.2 (a * b) (Nat.dvd-mul_right a b) (Nat.dvd-mul_left b a))
 
 -- one term more in the program
-pub step-of : (ws : List Written) (i : ℕ) (d : Written) (c q m : ℕ) → i < length ws → IsCommonDenominator (take i (map written_term ws)) c → q ≡ denominator_of (written_term (get_or ws i d)) → 0 < q → IsLcm c q m
+pub step-of : (ws : List Written) (i : ℕ) (d : Written) (c q m : ℕ) → i < length ws → IsCommonDenominator (take i (map written_term ws)) c
+    → q ≡ denominator_of (written_term (get_or ws i d)) → 0 < q → IsLcm c q m
     → IsCommonDenominator (take (i + 1) (map written_term ws)) m
 step-of ws i d c q m lt h e p l = subst (λ us. IsCommonDenominator us m) (sym (front-more ws i d lt))
-    (common-more (take i (map written_term ws)) (written_term (get_or ws i d)) c m h (subst (λ x. 0 < x) e p) (subst (λ x. IsLcm c x m) e l) (lcm-positive c q m h.positive p l))
+    (common-more (take i (map written_term ws)) (written_term (get_or ws i d)) c m h (subst (λ x. 0 < x) e p) (subst (λ x. IsLcm c x m) e l)
+        (lcm-positive c q m h.positive p l))

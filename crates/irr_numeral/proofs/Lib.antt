@@ -10,3 +10,6 @@ pub mod CommonDenominators
 pub mod ScaledTerms
 pub mod ReadNumbers
 pub mod OneReading
+pub mod PrintedWriting
+pub mod PrintedTermFacts
+pub mod PrintedReadings

@@ -12,7 +12,7 @@ mod shape;
 mod terms;
 mod zero;
 
-pub use laws::texts_read_in_one_way;
+pub use laws::{printed_numbers_are_read, texts_read_in_one_way};
 pub use print::print_number;
 pub use read::{NumberError, read_number};
 

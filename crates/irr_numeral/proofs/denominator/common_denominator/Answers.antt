@@ -1,5 +1,5 @@
 -- Term by term.
-use Rattle.std.proofs.Common.{arith, map, refl, lit<, length, ◌≤◌}
+use Rattle.std.proofs.Common.{arith, map, lit<}
 use Rattle.std.proofs.lemmas.List.{length-map}
 use Rattle.irr_numeral.specs.TermPlaces.{written_term}
 use Rattle.irr_numeral.specs.WrittenValue.{IsSmallTerm}
@@ -15,14 +15,17 @@ loop-term-init c = (common-none, lit< tt)
 
 pub returns-then-common-gt-DENOMINATOR_LIMIT-clause-none : goal.returns-then-common-gt-DENOMINATOR_LIMIT-clause-none
 returns-then-common-gt-DENOMINATOR_LIMIT-clause-none c = λ _ d h. common-beyond (map written_term c.args.terms.now) _ c.least_multiple-common.result d _
-    (step-of c.args.terms.now c.loop-term.term-index no_term c.loop-term.common c.denominator.result c.least_multiple-common.result c.loop-term-test.true c.loop-term.invariant.0 c.denominator.ensures.value c.denominator.ensures.positive c.least_multiple-common.ensures)
+    (step-of c.args.terms.now c.loop-term.term-index no_term c.loop-term.common c.denominator.result c.least_multiple-common.result c.loop-term-test.true
+        c.loop-term.invariant.0 c.denominator.ensures.value c.denominator.ensures.positive c.least_multiple-common.ensures)
     c.if-common-gt-DENOMINATOR_LIMIT.true h
 
 pub loop-term-preserved : goal.loop-term-preserved
 loop-term-preserved c = (
-  step-of c.args.terms.now c.loop-term.term-index no_term c.loop-term.common c.denominator.result c.least_multiple-common.result c.loop-term-test.true c.loop-term.invariant.0 c.denominator.ensures.value c.denominator.ensures.positive c.least_multiple-common.ensures,
+  step-of c.args.terms.now c.loop-term.term-index no_term c.loop-term.common c.denominator.result c.least_multiple-common.result c.loop-term-test.true
+      c.loop-term.invariant.0 c.denominator.ensures.value c.denominator.ensures.positive c.least_multiple-common.ensures,
   omega (arith, c.if-common-gt-DENOMINATOR_LIMIT.false),
 )
 
 pub returns-clause-common : goal.returns-clause-common
-returns-clause-common c = common-all (map written_term c.args.terms.now) c.loop-term.term-index c.loop-term.common (omega (arith, c.loop-term-test.false, length-map c.args.terms.now written_term)) c.loop-term.invariant.0
+returns-clause-common c = common-all (map written_term c.args.terms.now) c.loop-term.term-index c.loop-term.common
+    (omega (arith, c.loop-term-test.false, length-map c.args.terms.now written_term)) c.loop-term.invariant.0

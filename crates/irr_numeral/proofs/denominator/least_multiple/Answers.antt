@@ -1,5 +1,4 @@
 -- By the greatest common divisor.
-use Rattle.std.proofs.Common.{arith}
 use Rattle.irr_number.proofs.Primes.{divisor_pos}
 use Rattle.irr_rat.proofs.Multiples.{lcm_of_gcd}
 use Rattle.irr_numeral.proofs.denominator.least_multiple.Goals as goal

@@ -1,10 +1,10 @@
 -- Term by term.
-use Rattle.std.proofs.Common.{arith, map, ◌≤◌, ◌+◌, refl}
+use Rattle.std.proofs.Common.{arith, map, ◌+◌, refl}
 use Rattle.std.proofs.lemmas.List.{length-map}
 use Rattle.std.proofs.lemmas.List.Sums.{sum_by-take-le}
 use Rattle.irr_numeral.specs.declared.limits.TheConstants.{COEFFICIENT_LIMIT}
 use Rattle.irr_numeral.specs.TermPlaces.{written_term}
-use Rattle.irr_numeral.specs.WrittenValue.{IsSmallTerm, numerator_over, written_size}
+use Rattle.irr_numeral.specs.WrittenValue.{IsSmallTerm, numerator_over}
 use Rattle.irr_numeral.proofs.CommonDenominators.{all-at}
 use Rattle.irr_numeral.proofs.ExponentOrder.{no_term}
 use Rattle.irr_numeral.proofs.ScaledTerms.{size-front, size-all}
@@ -17,7 +17,8 @@ pub returns-then-size-gt-COEFFICIENT_LIMIT : goal.returns-then-size-gt-COEFFICIE
 returns-then-size-gt-COEFFICIENT_LIMIT c =
     let front = size-front c.args.den c.args.terms.now c.loop-term.term-index no_term c.loop-term-test.true in
     let part = sum_by-take-le (numerator_over c.args.den) (map written_term c.args.terms.now) (c.loop-term.term-index + 1) in
-    (λ h. absurd (cc), λ h. absurd (omega (arith, front, part, c.loop-term.invariant.0, c.absolute_numerator-size.ensures.value, c.if-size-gt-COEFFICIENT_LIMIT.true, h)))
+    (λ h. absurd (cc), λ h. absurd (omega (arith, front, part, c.loop-term.invariant.0, c.absolute_numerator-size.ensures.value,
+        c.if-size-gt-COEFFICIENT_LIMIT.true, h)))
 
 pub loop-term-preserved : goal.loop-term-preserved
 loop-term-preserved c =
@@ -26,6 +27,7 @@ loop-term-preserved c =
 
 pub returns : goal.returns
 returns c = (
-  λ _. size-all c.args.den (map written_term c.args.terms.now) c.loop-term.term-index c.loop-term.size COEFFICIENT_LIMIT (omega (arith, c.loop-term-test.false, length-map c.args.terms.now written_term)) c.loop-term.invariant.0 c.loop-term.invariant.1,
+  λ _. size-all c.args.den (map written_term c.args.terms.now) c.loop-term.term-index c.loop-term.size COEFFICIENT_LIMIT
+      (omega (arith, c.loop-term-test.false, length-map c.args.terms.now written_term)) c.loop-term.invariant.0 c.loop-term.invariant.1,
   λ _. refl,
 )

@@ -17,7 +17,8 @@ pub exponent-requires-clause-is_term : goal.exponent-requires-clause-is_term
 exponent-requires-clause-is_term c = (all-at IsSmallTerm c.args.terms.now c.loop-term.term-index no_term c.requires.small c.loop-term-test.true).0
 
 pub exponent-requires-clause-small : goal.exponent-requires-clause-small
-exponent-requires-clause-small c = all-at (IsSmallExponent c.args.n) c.args.terms.now c.loop-term.term-index no_term c.requires.exponents c.loop-term-test.true
+exponent-requires-clause-small c = all-at (IsSmallExponent c.args.n) c.args.terms.now c.loop-term.term-index no_term c.requires.exponents
+    c.loop-term-test.true
 
 pub numerator-requires-clause-small : goal.numerator-requires-clause-small
 numerator-requires-clause-small c = all-at IsSmallTerm c.args.terms.now c.loop-term.term-index no_term c.requires.small c.loop-term-test.true
@@ -26,8 +27,10 @@ pub loop-term-preserved : goal.loop-term-preserved
 loop-term-preserved c =
     let fits : SFits w64 c.numerator.result = search rules in
     let kept : to_z w64 (of_z w64 c.numerator.result) ≡ c.numerator.result = to_z-of_z w64 c.numerator.result fits in
-    scaled-front c.args.den c.args.terms.now c.loop-term.term-index no_term c.loop-term.scaled.items c.push.new.self.items (c.exponent.result, to_z w64 (of_z w64 c.numerator.result)) c.loop-term-test.true c.loop-term.invariant
+    scaled-front c.args.den c.args.terms.now c.loop-term.term-index no_term c.loop-term.scaled.items c.push.new.self.items
+        (c.exponent.result, to_z w64 (of_z w64 c.numerator.result)) c.loop-term-test.true c.loop-term.invariant
     c.in_ok-push.ensures.items (ap₂ (λ a b. (a, b)) c.exponent.ensures (kept ∙ c.numerator.ensures))
 
 pub returns : goal.returns
-returns c = c.loop-term.invariant ∙ ap (map (scaled_term c.args.den)) (take_all c.loop-term.term-index (map written_term c.args.terms.now) (omega (arith, c.loop-term-test.false, length-map c.args.terms.now written_term)))
+returns c = c.loop-term.invariant ∙ ap (map (scaled_term c.args.den)) (take_all c.loop-term.term-index (map written_term c.args.terms.now)
+    (omega (arith, c.loop-term-test.false, length-map c.args.terms.now written_term)))
