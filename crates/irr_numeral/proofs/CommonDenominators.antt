@@ -89,4 +89,4 @@ pub step-of : (ws : List Written) (i : ℕ) (d : Written) (c q m : ℕ) → i < 
     → IsCommonDenominator (take (i + 1) (map written_term ws)) m
 step-of ws i d c q m lt h e p l = subst (λ us. IsCommonDenominator us m) (sym (front-more ws i d lt))
     (common-more (take i (map written_term ws)) (written_term (get_or ws i d)) c m h (subst (λ x. 0 < x) e p) (subst (λ x. IsLcm c x m) e l)
-        (lcm-positive c q m h.positive p l))
+    (lcm-positive c q m h.positive p l))

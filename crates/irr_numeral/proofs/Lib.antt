@@ -13,3 +13,4 @@ pub mod OneReading
 pub mod PrintedWriting
 pub mod PrintedTermFacts
 pub mod PrintedReadings
+pub mod ReadSizes

@@ -32,7 +32,7 @@ exponent-unique None (Some ds) xs ys h k b c e = absurd (no_star xs (122 ∷ 94 
 exponent-unique (Some ds) None xs ys h k b c e = absurd (no_star ys (122 ∷ 94 ∷ (ds ++ xs)) c (sym e))
 exponent-unique (Some ds) (Some es) xs ys h k b c e =
     let rest : ds ++ xs ≡ es ++ ys = tails 94 94 (ds ++ xs) (es ++ ys) (tails 122 122 (94 ∷ (ds ++ xs)) (94 ∷ (es ++ ys))
-        (tails 42 42 (122 ∷ 94 ∷ (ds ++ xs)) (122 ∷ 94 ∷ (es ++ ys)) e)) in
+    (tails 42 42 (122 ∷ 94 ∷ (ds ++ xs)) (122 ∷ 94 ∷ (es ++ ys)) e)) in
     let both = run_unique ds es xs ys (digits_of_whole ds h) (digits_of_whole es k) (no_digit-behind xs b) (no_digit-behind ys c) rest in
     (ap Some both.0, both.1)
 
@@ -44,9 +44,9 @@ quotient-unique None (Some ds) e f xs ys h k b c q = absurd (no_slash e xs (ds +
 quotient-unique (Some ds) None e f xs ys h k b c q = absurd (no_slash f ys (ds ++ (exponent_text e ++ xs)) c (sym q))
 quotient-unique (Some ds) (Some es) e f xs ys h k b c q =
     let rest : ds ++ (exponent_text e ++ xs) ≡ es ++ (exponent_text f ++ ys) =
-        tails 47 47 (ds ++ (exponent_text e ++ xs)) (es ++ (exponent_text f ++ ys)) q in
+    tails 47 47 (ds ++ (exponent_text e ++ xs)) (es ++ (exponent_text f ++ ys)) q in
     let both = run_unique ds es (exponent_text e ++ xs) (exponent_text f ++ ys) (digits_of_denominator ds h) (digits_of_denominator es k)
-        (no_digit-exponent e xs b) (no_digit-exponent f ys c) rest in
+    (no_digit-exponent e xs b) (no_digit-exponent f ys c) rest in
     (ap Some both.0, both.1)
 
 unsigned-unique : (t u : WrittenTerm) (xs ys : List ℕ) → IsTerm t → IsTerm u → IsBehindTerm xs → IsBehindTerm ys
@@ -54,10 +54,10 @@ unsigned-unique : (t u : WrittenTerm) (xs ys : List ℕ) → IsTerm t → IsTerm
     → (t.numerator ≡ u.numerator) × (t.denominator ≡ u.denominator) × (t.exponent ≡ u.exponent) × (xs ≡ ys)
 unsigned-unique t u xs ys h k b c e =
     let num = run_unique t.numerator u.numerator (quotient_text t.denominator ++ (exponent_text t.exponent ++ xs))
-        (quotient_text u.denominator ++ (exponent_text u.exponent ++ ys))
-        (digits_of_whole t.numerator h.numerator) (digits_of_whole u.numerator k.numerator) (no_digit-quotient t.denominator t.exponent xs b)
-            (no_digit-quotient u.denominator u.exponent ys c)
-        (sym (regrouped t xs) ∙ e ∙ regrouped u ys) in
+    (quotient_text u.denominator ++ (exponent_text u.exponent ++ ys))
+    (digits_of_whole t.numerator h.numerator) (digits_of_whole u.numerator k.numerator) (no_digit-quotient t.denominator t.exponent xs b)
+    (no_digit-quotient u.denominator u.exponent ys c)
+    (sym (regrouped t xs) ∙ e ∙ regrouped u ys) in
     let den = quotient-unique t.denominator u.denominator t.exponent u.exponent xs ys h.denominator k.denominator b c num.1 in
     let exp = exponent-unique t.exponent u.exponent xs ys h.exponent k.exponent b c den.1 in
     (num.0, den.0, exp.0, exp.1)
@@ -74,11 +74,11 @@ later-unique [] (u ∷ us) h k e = absurd (omega (arith, ap length e))
 later-unique (t ∷ ts) [] h k e = absurd (omega (arith, ap length e))
 later-unique (t ∷ ts) (u ∷ us) h k e =
     let sign : t.negative ≡ u.negative = later_sign-unique t.negative u.negative
-        (heads (later_sign t.negative) (later_sign u.negative) (unsigned_text t ++ spelled_later ts) (unsigned_text u ++ spelled_later us) e) in
+    (heads (later_sign t.negative) (later_sign u.negative) (unsigned_text t ++ spelled_later ts) (unsigned_text u ++ spelled_later us) e) in
     let parts = unsigned-unique t u (spelled_later ts) (spelled_later us) h.0 k.0 (behind_later ts) (behind_later us)
-        (tails (later_sign t.negative) (later_sign u.negative) (unsigned_text t ++ spelled_later ts) (unsigned_text u ++ spelled_later us) e) in
+    (tails (later_sign t.negative) (later_sign u.negative) (unsigned_text t ++ spelled_later ts) (unsigned_text u ++ spelled_later us) e) in
     ap₂ (λ v vs. v ∷ vs) (term_ext t.negative u.negative t.numerator u.numerator t.denominator u.denominator t.exponent u.exponent sign parts.0 parts.1
-        parts.2) (later-unique ts us h.2 k.2 parts.3)
+    parts.2) (later-unique ts us h.2 k.2 parts.3)
 
 -- a term's text begins with a digit above 0
 begins : (t : WrittenTerm) (xs : List ℕ) → IsTerm t → (d : ℕ) × (rest : List ℕ) × (49 ≤ d) × (unsigned_text t ++ xs ≡ d ∷ rest)
@@ -110,7 +110,7 @@ spelled-unique (t ∷ ts) (u ∷ us) h k e =
     let first = first-unique t u (spelled_later ts) (spelled_later us) t.negative u.negative h.0 k.0 e in
     let parts = unsigned-unique t u (spelled_later ts) (spelled_later us) h.0 k.0 (behind_later ts) (behind_later us) first.1 in
     ap₂ (λ v vs. v ∷ vs) (term_ext t.negative u.negative t.numerator u.numerator t.denominator u.denominator t.exponent u.exponent first.0 parts.0 parts.1
-        parts.2) (later-unique ts us h.1 k.1 parts.3)
+    parts.2) (later-unique ts us h.1 k.1 parts.3)
 
 pub read-unique : (n : ℕ) (text : List ℕ) (x y : Number n) → IsReadAs n text x → IsReadAs n text y → x ≡ y
 read-unique n text x y h k = h.value ∙ ap (written_value n) (spelled-unique h.terms k.terms h.are_terms k.are_terms (h.spells ∙ sym k.spells)) ∙ sym k.value
@@ -127,8 +127,8 @@ increasing-seam (x ∷ xs) a b ys h = increasing-seam xs a b ys (λ k lt. let ne
 not-unordered : (ts : List WrittenTerm) (p : ℕ) → AreIncreasing ts → IsUnorderedAt ts p → ⊥
 not-unordered ts p h u =
     let less : exponent_of u.last < exponent_of u.term = increasing-seam (map exponent_of u.before) (exponent_of u.last) (exponent_of u.term)
-        (map exponent_of u.after)
-        (subst IsStrictlyIncreasing (map-append exponent_of u.before (u.last ∷ u.term ∷ u.after)) (subst AreIncreasing u.parts h)) in
+    (map exponent_of u.after)
+    (subst IsStrictlyIncreasing (map-append exponent_of u.before (u.last ∷ u.term ∷ u.after)) (subst AreIncreasing u.parts h)) in
     omega (arith, less, u.unordered)
 
 not-each : (P : WrittenTerm → Type 0) (before : List WrittenTerm) (t : WrittenTerm) (after ts : List WrittenTerm) → ts ≡ before ++ (t ∷ after) → All P ts

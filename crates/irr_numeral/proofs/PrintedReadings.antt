@@ -109,7 +109,7 @@ unfolding nonzero_terms
 are-printed den zero f h = tt
 are-printed den (suc m) f h = subst AreTerms (sym (map-append (printed den) (nonzero_terms m f) (term m (f m))))
     (push-term den m (f m) (map (printed den) (nonzero_terms m f)) (are-printed den m f (λ j lt n. h j (omega arith) n)) (exponent-or-first m f den)
-        (h m (omega arith)))
+    (h m (omega arith)))
 
 -- Their exponents.
 
@@ -140,7 +140,7 @@ unfolding nonzero_terms
 increasing-exponents zero f = λ k lt. absurd (omega arith)
 increasing-exponents (suc m) f = subst IsStrictlyIncreasing (sym (map-append (λ t. t.0) (nonzero_terms m f) (term m (f m))))
     (push-exponent m (f m) (map (λ t. t.0) (nonzero_terms m f)) (increasing-exponents m f)
-        (All-map (λ x. x < m) (λ t. t.0) (nonzero_terms m f) (all-nonzero (λ t. t.0 < m) m f (λ j lt n. lt))))
+    (All-map (λ x. x < m) (λ t. t.0) (nonzero_terms m f) (all-nonzero (λ t. t.0 < m) m f (λ j lt n. lt))))
 
 -- Their size.
 

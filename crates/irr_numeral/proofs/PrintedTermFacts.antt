@@ -129,7 +129,7 @@ module _ (c : ℤ) (den : ℕ) (some : c ≢ pos 0) (p : 0 < den) where
   lowest-divides = dvd_of_lowest {m = 1} (λ i. numerator (ratio c den)) (denominator 1 (ratio c den)) den
       (record { positive = low.positive; lowest = λ d v each. low.lowest d v (each first) })
       (λ i. subst (λ k. denominator 1 (ratio c den) ∣ k) (sym cross ∙ Nat.mul_comm (unsigned_abs (numerator (ratio c den))) den)
-          (Nat.dvd-mul_left (denominator 1 (ratio c den)) (unsigned_abs c)))
+      (Nat.dvd-mul_left (denominator 1 (ratio c den)) (unsigned_abs c)))
 
   absolute-over : unsigned_abs (numerator (ratio c den)) * (den / denominator 1 (ratio c den)) ≡ unsigned_abs c
   absolute-over = cancelled (unsigned_abs (numerator (ratio c den))) (denominator 1 (ratio c den)) (den / denominator 1 (ratio c den))
@@ -142,7 +142,7 @@ module _ (c : ℤ) (den : ℕ) (some : c ≢ pos 0) (p : 0 < den) where
       quotient-pos : 0 < den / denominator 1 (ratio c den)
       quotient-pos = divisor_pos (den / denominator 1 (ratio c den)) den p
           (subst (λ x. den / denominator 1 (ratio c den) ∣ x) (Nat.mul-div_cancel' (denominator 1 (ratio c den)) lowest-divides)
-              (Nat.dvd-mul_left (den / denominator 1 (ratio c den)) (denominator 1 (ratio c den))))
+          (Nat.dvd-mul_left (den / denominator 1 (ratio c den)) (denominator 1 (ratio c den))))
 
 pub printed-as : (n den j : ℕ) (c : ℤ) → c ≢ pos 0 → 0 < den → den ≤ DENOMINATOR_LIMIT → unsigned_abs c ≤ COEFFICIENT_LIMIT → j < n → n < 2 ^ 64
     → IsPrintedAs n den (j, c)
@@ -151,11 +151,11 @@ printed-as n den j c some p d l lt top =
     let le : denominator 1 (ratio c den) ≤ den = le_of_dvd p (lowest-divides c den some p) in
     let abs : unsigned_abs (numerator (ratio c den)) ≤ unsigned_abs c = absolute-le c den some p in
     let value : digits_value 10 (decimal (unsigned_abs (numerator (ratio c den)))) ≡ unsigned_abs (numerator (ratio c den)) =
-        value-decimal (unsigned_abs (numerator (ratio c den))) (omega arith) in
+    value-decimal (unsigned_abs (numerator (ratio c den))) (omega arith) in
     let below : denominator 1 (ratio c den) < 2 ^ 64 = omega arith in
     let exp : j < 2 ^ 64 = omega arith in
     let over : denominator_value (denominator_digits (denominator 1 (ratio c den))) ≡ denominator 1 (ratio c den) =
-        denominator-value (denominator 1 (ratio c den)) below in
+    denominator-value (denominator 1 (ratio c den)) below in
     record {
       is_term = record {
         numerator = whole-decimal (unsigned_abs (numerator (ratio c den))) (abs-some (numerator (ratio c den)) (numerator-some c den p some)) (omega arith);

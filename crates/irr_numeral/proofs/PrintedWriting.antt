@@ -31,8 +31,13 @@ is_negative (negsuc n) = true
 
 -- a over b times z^j
 abbrev pub written_as : ℤ → ℕ → ℕ → WrittenTerm
-written_as a b j = record { negative = is_negative a; numerator = decimal (unsigned_abs a); denominator = denominator_digits b; exponent =
-    exponent_digits j }
+written_as a b j = record {
+  negative = is_negative a;
+  numerator = decimal (unsigned_abs a);
+  denominator = denominator_digits b;
+  exponent =
+      exponent_digits j;
+}
 
 abbrev pub printed : ℕ → ℕ × ℤ → WrittenTerm
 printed den t = written_as (numerator (ratio t.1 den)) (denominator 1 (ratio t.1 den)) t.0
@@ -65,13 +70,13 @@ pub numerator-some : (c : ℤ) (den : ℕ) → 0 < den → c ≢ pos 0 → numer
 numerator-some c den positive some z =
     let low = numerator_is_lowest (ratio c den) in
     some (zero_of_ratio c den positive (sym low.1 ∙ ap (λ a. ratio a (denominator 1 (ratio c den))) z
-        ∙ ratio-zero (denominator 1 (ratio c den)) low.0.positive))
+    ∙ ratio-zero (denominator 1 (ratio c den)) low.0.positive))
 
 text-written : (den : ℕ) (t : ℕ × ℤ) → 0 < den → t.1 ≢ pos 0 → written den t ≡ later_sign (printed den t).negative ∷ unsigned_text (printed den t)
 unfolding term_text
 text-written den t positive some = ap (λ ys. behind ys (signed_fraction (numerator (ratio t.1 den)) (denominator 1 (ratio t.1 den)))) (power-text t.0)
     ∙ fraction-written (numerator (ratio t.1 den)) (denominator 1 (ratio t.1 den)) (exponent_text (exponent_digits t.0))
-        (numerator-some t.1 den positive some)
+    (numerator-some t.1 den positive some)
 
 pieces-spelled : (den : ℕ) (ts : List (ℕ × ℤ)) → 0 < den → All (λ t. t.1 ≢ pos 0) ts → flat_map (written den) ts ≡ spelled_later (map (printed den) ts)
 pieces-spelled den [] positive some = refl

@@ -64,15 +64,15 @@ term-scaled n d t p v =
         (signed-scale t.negative (d / denominator_of t) (digits_value 10 t.numerator))
         (subst (IsOver (numbers n) (lift_of 1 n (ratio (numerator_of t) (denominator_of t))) (pos (d / denominator_of t) *ℤ numerator_of t)) product
         (over-scale (numbers n) (lift_of 1 n (ratio (numerator_of t) (denominator_of t))) (numerator_of t) (denominator_of t) (d / denominator_of t)
-            (over-lift n (numerator_of t) (denominator_of t) p)))
+        (over-lift n (numerator_of t) (denominator_of t) p)))
 
-terms-scaled : (n d : ℕ) (ts : List WrittenTerm) → All (λ t. 0 < denominator_of t) ts → All (λ t. denominator_of t ∣ d) ts
+pub terms-scaled : (n d : ℕ) (ts : List WrittenTerm) → All (λ t. 0 < denominator_of t) ts → All (λ t. denominator_of t ∣ d) ts
     → (numbers n).mul (whole (numbers n) d) (written_value n ts) ≡ terms_sum n (map (scaled_term d) ts)
 unfolding written_value terms_sum
 terms-scaled n d [] p v = mul-zero (numbers n) (whole (numbers n) d)
 terms-scaled n d (t ∷ ts) p v = (numbers n).mul-add (whole (numbers n) d) (term_value n t) (written_value n ts)
     ∙ ap₂ (numbers n).add (term-scaled n d t (p 0 t (omega arith)) (v 0 t (omega arith)))
-        (terms-scaled n d ts (λ k e lt. p (suc k) e (omega arith)) (λ k e lt. v (suc k) e (omega arith)))
+    (terms-scaled n d ts (λ k e lt. p (suc k) e (omega arith)) (λ k e lt. v (suc k) e (omega arith)))
 
 pub value-of : (n d : ℕ) (ts : List WrittenTerm) (x : Number n) → 0 < n → IsCommonDenominator ts d → All (λ t. 0 < denominator_of t) ts
     → (numbers n).mul (whole (numbers n) d) x ≡ terms_sum n (map (scaled_term d) ts) → x ≡ written_value n ts

@@ -1,5 +1,7 @@
 // How a number's text is read.
-ghost use Rattle.std.specs.Prelude.{◌≡◌, ◌<◌, map, All, IfErr, IfOk};
+ghost use Rattle.std.specs.Prelude.{◌≡◌, ◌<◌, ◌≤◌, ◌*◌, map, All, IfErr, IfOk};
+ghost use Rattle.irr_canonical.specs.Coefficient.{denominator, size};
+ghost use Rattle.irr_numeral.specs.declared.limits.TheConstants.{COEFFICIENT_LIMIT, DENOMINATOR_LIMIT};
 ghost use Rattle.irr_numeral.specs.NumberFault.{IsFault};
 ghost use Rattle.irr_numeral.specs.declared.read.NumberError.TheVariants.{Memory as no_memory};
 ghost use Rattle.irr_numeral.specs.NumberLimit.{IsWithin};
@@ -44,17 +46,19 @@ impl From<Memory> for NumberError {
     }
 }
 
-/// The number that a text writes, as a number of an order. The grammar and the places of errors are this
-/// project's own: terms `2/3*z^4` with signs, whose exponents increase; the limits hold for the numbers as
-/// they are written, for their least common denominator, and for the sum of the absolute numerators over it.
-pub fn read_number<S: Scalar>(
-    alloc: Global,
-    order: &Order,
-    text: &[u8],
-) -> Result<S, NumberError>
+/// The number of an order that a text writes: `0`, or terms as `-2/3*z^4` whose exponents increase, the first
+/// with an exponent or none (a form of this project's own). Numerators are at most 1,073,741,824, denominators
+/// 4,096, exponents below the order. The coefficients as they are written (2/4 counts 4) have a least common
+/// denominator of at most 4,096, and the sum of their absolute numerators over it is at most 1,073,741,824.
+///
+/// The error is the first of Shape, Zero and Range that holds, at the place of its first cause; Range is at the
+/// text's length where only the common denominator or the sum passes its limit.
+pub fn read_number<S: Scalar>(alloc: Global, order: &Order, text: &[u8]) -> Result<S, NumberError>
     requires { S.admits order.now.n }
     ensures order { IfOk result (λ x. S.order_of x ≡ order.now.n) }
     ensures read { IfOk result (λ x. let n = order.now.n in IsReadAs n text.now (S.value n x)) }
+    ensures denominator { IfOk result (λ x. let n = order.now.n in denominator n (S.value n x) ≤ DENOMINATOR_LIMIT) }
+    ensures size { IfOk result (λ x. let n = order.now.n in size n (S.value n x) ≤ COEFFICIENT_LIMIT * n) }
     ensures fault { IfErr result (λ e. IsFault order.now.n text.now e) }
 {
     let read = read_terms(alloc, order.n(), text)?;

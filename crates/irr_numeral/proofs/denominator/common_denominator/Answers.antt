@@ -16,7 +16,7 @@ loop-term-init c = (common-none, lit< tt)
 pub returns-then-common-gt-DENOMINATOR_LIMIT-clause-none : goal.returns-then-common-gt-DENOMINATOR_LIMIT-clause-none
 returns-then-common-gt-DENOMINATOR_LIMIT-clause-none c = λ _ d h. common-beyond (map written_term c.args.terms.now) _ c.least_multiple-common.result d _
     (step-of c.args.terms.now c.loop-term.term-index no_term c.loop-term.common c.denominator.result c.least_multiple-common.result c.loop-term-test.true
-        c.loop-term.invariant.0 c.denominator.ensures.value c.denominator.ensures.positive c.least_multiple-common.ensures)
+    c.loop-term.invariant.0 c.denominator.ensures.value c.denominator.ensures.positive c.least_multiple-common.ensures)
     c.if-common-gt-DENOMINATOR_LIMIT.true h
 
 pub loop-term-preserved : goal.loop-term-preserved

@@ -1,6 +1,7 @@
 -- The faults are those of the terms, and else the number is that of the scaled terms.
 use Rattle.std.proofs.Common.{subst, refl, map, ◌∙◌, ◌<◌}
 use Rattle.irr_numeral.specs.TermPlaces.{written_term}
+use Rattle.irr_numeral.proofs.ReadSizes.{read-denominator, read-size}
 use Rattle.irr_numeral.proofs.ReadNumbers.{read-of, small-terms, denominator-fault, size-fault, read-as, scaled-exponents, scaled-size}
 use Rattle.irr_numeral.proofs.read.read_number.Goals as goal
 
@@ -56,3 +57,11 @@ returns-clause-read g c = read-as c.args.order.now.n c.args.text.now (map writte
     c.in_ok-read.ensures.within) c.in-Some.den (g.S.Scalar.value c.args.order.now.n c.in_ok-number.number) c.as_slice.result.now
     (subst (λ k. 0 < k) c.n.ensures.value c.n.ensures.positive) c.in-Some.ensures.common c.in-Some.ensures.within
     (c.is_size_within.ensures.0 c.if-not-is_size_within.false) (c.as_slice.ensures.value ∙ c.in_ok-scaled.ensures) c.in_ok-number.ensures.value
+
+pub returns-clause-denominator : goal.returns-clause-denominator
+returns-clause-denominator g c = read-denominator c.args.order.now.n c.args.text.now (g.S.Scalar.value c.args.order.now.n c.in_ok-number.number) (returns-clause-read g c)
+    (subst (λ k. 0 < k) c.n.ensures.value c.n.ensures.positive)
+
+pub returns-clause-size : goal.returns-clause-size
+returns-clause-size g c = read-size c.args.order.now.n c.args.text.now (g.S.Scalar.value c.args.order.now.n c.in_ok-number.number) (returns-clause-read g c)
+    (subst (λ k. 0 < k) c.n.ensures.value c.n.ensures.positive)

@@ -16,9 +16,18 @@ absolute_numerator-size-requires-clause-small c = all-at IsSmallTerm c.args.term
 pub returns-then-size-gt-COEFFICIENT_LIMIT : goal.returns-then-size-gt-COEFFICIENT_LIMIT
 returns-then-size-gt-COEFFICIENT_LIMIT c =
     let front = size-front c.args.den c.args.terms.now c.loop-term.term-index no_term c.loop-term-test.true in
-    let part = sum_by-take-le (numerator_over c.args.den) (map written_term c.args.terms.now) (c.loop-term.term-index + 1) in
-    (λ h. absurd (cc), λ h. absurd (omega (arith, front, part, c.loop-term.invariant.0, c.absolute_numerator-size.ensures.value,
-        c.if-size-gt-COEFFICIENT_LIMIT.true, h)))
+    let part = sum_by-take-le (numerator_over c.args.den) (map written_term c.args.terms.now) (c.loop-term.term-index + 1) in (
+      λ h. absurd (cc),
+      λ h. absurd (omega (
+        arith,
+        front,
+        part,
+        c.loop-term.invariant.0,
+        c.absolute_numerator-size.ensures.value,
+        c.if-size-gt-COEFFICIENT_LIMIT.true,
+        h,
+      )),
+    )
 
 pub loop-term-preserved : goal.loop-term-preserved
 loop-term-preserved c =

@@ -28,7 +28,7 @@ loop-term-preserved c =
     let fits : SFits w64 c.numerator.result = search rules in
     let kept : to_z w64 (of_z w64 c.numerator.result) ≡ c.numerator.result = to_z-of_z w64 c.numerator.result fits in
     scaled-front c.args.den c.args.terms.now c.loop-term.term-index no_term c.loop-term.scaled.items c.push.new.self.items
-        (c.exponent.result, to_z w64 (of_z w64 c.numerator.result)) c.loop-term-test.true c.loop-term.invariant
+    (c.exponent.result, to_z w64 (of_z w64 c.numerator.result)) c.loop-term-test.true c.loop-term.invariant
     c.in_ok-push.ensures.items (ap₂ (λ a b. (a, b)) c.exponent.ensures (kept ∙ c.numerator.ensures))
 
 pub returns : goal.returns
