@@ -35,7 +35,8 @@ module _ (n : ℕ) where
   integer-sum : (c : ℤ) (j : ℕ) → IsRootSum n (unsigned_abs c) 1 ((numbers n).mul (integer (numbers n) c) (root_power n j))
   unfolding integer
   integer-sum (pos m) j = whole-sum m j
-  integer-sum (negsuc m) j = subst (IsRootSum n (suc m) 1) (sym (neg-mul (numbers n) (whole (numbers n) (suc m)) (root_power n j))) (IsRootSum-neg n (whole-sum (suc m) j))
+  integer-sum (negsuc m) j = subst (IsRootSum n (suc m) 1) (sym (neg-mul (numbers n) (whole (numbers n) (suc m)) (root_power n j)))
+      (IsRootSum-neg n (whole-sum (suc m) j))
 
   terms-sum : (ts : List (ℕ × ℤ)) → IsRootSum n (sum_by (λ t. unsigned_abs t.1) ts) 1 (terms_sum n ts)
   unfolding terms_sum
@@ -56,9 +57,11 @@ module _ (n : ℕ) where
     read = record { are_terms = h.are_terms; spells = h.spells; increasing = h.increasing; not_zero = h.not_zero; within = h.within }
 
     read-sum : IsRootSum n (written_size h.small.denominator h.terms) h.small.denominator x
-    read-sum = over-sum (written_size h.small.denominator h.terms) h.small.denominator x (terms_sum n (map (scaled_term h.small.denominator) h.terms)) h.small.common.positive
+    read-sum = over-sum (written_size h.small.denominator h.terms) h.small.denominator x
+        (terms_sum n (map (scaled_term h.small.denominator) h.terms)) h.small.common.positive
         (ap ((numbers n).mul (whole (numbers n) h.small.denominator)) h.value
-        ∙ terms-scaled n h.small.denominator h.terms (λ k t lt. positive-denominator (get_or h.terms k t) (small-terms n text h.terms read k t lt)) h.small.common.common)
+        ∙ terms-scaled n h.small.denominator h.terms (λ k t lt. positive-denominator (get_or h.terms k t) (small-terms n text h.terms read k t lt))
+        h.small.common.common)
         (subst (λ s. IsRootSum n s 1 (terms_sum n (map (scaled_term h.small.denominator) h.terms))) (size-scaled h.small.denominator h.terms)
         (terms-sum (map (scaled_term h.small.denominator) h.terms)))
 
@@ -70,6 +73,7 @@ module _ (n : ℕ) where
 
     pub read-size : 0 < n → size n x ≤ COEFFICIENT_LIMIT * n
     read-size p =
-        let le : size n x ≤ written_size h.small.denominator h.terms * n = size_of_IsRootSum n p (written_size h.small.denominator h.terms) h.small.denominator x read-sum in
+        let le : size n x ≤ written_size h.small.denominator h.terms * n = size_of_IsRootSum n p
+        (written_size h.small.denominator h.terms) h.small.denominator x read-sum in
         let more : written_size h.small.denominator h.terms * n ≤ COEFFICIENT_LIMIT * n = Nat.mul-le-mul_right n h.small.size_within in
         omega (arith, le, more)

@@ -20,5 +20,6 @@ pub fn texts_read_in_one_way()
 
 /// What is printed within the limits is read as the same number.
 pub fn printed_numbers_are_read()
-    ensures { (n : ℕ) → 0 < n → n < 2 ^ 64 → (x : Number n) → denominator n x ≤ DENOMINATOR_LIMIT → size n x ≤ COEFFICIENT_LIMIT → IsReadAs n (number_text n x) x }
+    ensures { (n : ℕ) → 0 < n → n < 2 ^ 64 → (x : Number n) → denominator n x ≤ DENOMINATOR_LIMIT
+        → size n x ≤ COEFFICIENT_LIMIT → IsReadAs n (number_text n x) x }
 {}
