@@ -84,8 +84,8 @@ later-unique (t ∷ ts) (u ∷ us) h k e =
 begins : (t : WrittenTerm) (xs : List ℕ) → IsTerm t → (d : ℕ) × (rest : List ℕ) × (49 ≤ d) × (unsigned_text t ++ xs ≡ d ∷ rest)
 begins t xs h = from t.numerator h.numerator
   where
-    from : (ds : List ℕ) → IsWhole ds → (d : ℕ) × (rest : List ℕ) × (49 ≤ d) ×
-        ((ds ++ (quotient_text t.denominator ++ exponent_text t.exponent)) ++ xs ≡ d ∷ rest)
+    from : (ds : List ℕ) → IsWhole ds → (d : ℕ) × (rest : List ℕ) × (49 ≤ d)
+        × ((ds ++ (quotient_text t.denominator ++ exponent_text t.exponent)) ++ xs ≡ d ∷ rest)
     from [] w = absurd w
     from (d ∷ ds) w = (d, (ds ++ (quotient_text t.denominator ++ exponent_text t.exponent)) ++ xs, w.0, refl)
 

@@ -1,7 +1,10 @@
 -- A printed number is read as itself.
---   each-nonzero, of-nonzero     what holds of the terms that are not zero, and of each of them
+--   all-nonzero, each-nonzero    what holds of the terms that are not zero, and of each of them
 --   are-printed                  the printed terms are terms of a text
---   printed-read                 and the text is read as the number
+--   increasing-exponents         their exponents increase
+--   size-printed, terms-printed  their size, and their value
+--   common-printed               the denominator of the number is their least common denominator
+--   printed-read                 so the text is read as the number
 use Rattle.std.proofs.Common.{◌≡◌, ◌≢◌, refl, sym, ◌∙◌, ap, ap₂, subst, ℕ, ℤ, pos, negsuc, zero, suc, ◌<◌, ◌≤◌, ◌+◌, ◌*◌, ◌/◌, ◌^◌, List, [], ◌∷◌, ◌++◌, append-nil, length, length-append, get_or, map, arith, All, IsSome, ◌⊎◌, inl, inr, unsigned_abs, sum_by}
 use Rattle.std.specs.Int.{◌∣◌}
 use Rattle.std.specs.List.Sorted.{IsStrictlyIncreasing}
@@ -172,8 +175,8 @@ as_read n x = map (printed (denominator n x)) (nonzero n x)
 -- Their value.
 
 module _ (n : ℕ) where
-  term-printed : (den : ℕ) (t : ℕ × ℤ) → 0 < den → IsPrintedAs n den t → (numbers n).mul (whole (numbers n) den) (term_value n (printed den t)) ≡
-      (numbers n).mul (integer (numbers n) t.1) (root_power n t.0)
+  term-printed : (den : ℕ) (t : ℕ × ℤ) → 0 < den → IsPrintedAs n den t → (numbers n).mul (whole (numbers n) den) (term_value n (printed den t))
+      ≡ (numbers n).mul (integer (numbers n) t.1) (root_power n t.0)
   term-printed den t p h =
       ap ((numbers n).mul (whole (numbers n) den)) (ap₂ (λ q j. (numbers n).mul (lift_of 1 n q) (root_power n j)) h.value h.exponent)
       ∙ sym ((numbers n).mul_assoc (whole (numbers n) den) (lift_of 1 n (ratio t.1 den)) (root_power n t.0))

@@ -23,8 +23,8 @@ abbrev pub IsRangeFault : ℕ → List ℕ → ℕ → Type 0
 IsRangeFault n text p = (form : IsNumber text) × AreIncreasing form.terms × All (λ t. ¬ (HasZero t)) form.terms × IsBeyondAt n form.terms p
 
 abbrev pub IsTotalFault : ℕ → List ℕ → ℕ → Type 0
-IsTotalFault n text p = (form : IsNumber text) × AreIncreasing form.terms × All (λ t. ¬ (HasZero t)) form.terms × All (IsWithin n) form.terms × ¬
-    (AreSmall form.terms) × (p ≡ length text)
+IsTotalFault n text p = (form : IsNumber text) × AreIncreasing form.terms × All (λ t. ¬ (HasZero t)) form.terms × All (IsWithin n) form.terms
+    × ¬ (AreSmall form.terms) × (p ≡ length text)
 
 abbrev pub IsFault : ℕ → List ℕ → NumberError → Type 0
 IsFault n text (Shape p) = IsShapeFault text p

@@ -30,7 +30,7 @@ pub enum NumberError {
     /// The denominator at this place is 0.
     #[error("zero at byte {0}")]
     Zero(u64),
-    /// The number at this place passes its limit.
+    /// The number at this place passes its limit; at the text's length, the common denominator or the size does.
     #[error("range at byte {0}")]
     Range(u64),
     /// No memory was found.
@@ -46,8 +46,8 @@ impl From<Memory> for NumberError {
     }
 }
 
-/// The number of an order that a text writes: `0`, or terms as `-2/3*z^4` whose exponents increase, the first
-/// with an exponent or none (a form of this project's own). Numerators are at most 1,073,741,824, denominators
+/// The number of an order that a text writes: `0`, or terms as `-2/3*z^4` whose exponents increase, where the
+/// first may have none (a form of this project's own). Numerators are at most 1,073,741,824, denominators
 /// 4,096, exponents below the order. The coefficients as they are written (2/4 counts 4) have a least common
 /// denominator of at most 4,096, and the sum of their absolute numerators over it is at most 1,073,741,824.
 ///
