@@ -98,7 +98,7 @@ first_of_none (t ∷ ts) (suc i) d h lt e = absurd (let is = (later-index ts i d
 whole_of : (o : Option (List ℕ)) (ds : List ℕ) → o ≡ Some ds → IfSome o IsWhole → IsWhole ds
 whole_of o ds e h = let P : Option (List ℕ) → Type 0 = λ u. IfSome u IsWhole in subst P e h
 
-exponent_of_whole : (ds : List ℕ) → IsWhole ds → IsExponent ds × (0 < digits_value 10 ds)
+pub exponent_of_whole : (ds : List ℕ) → IsWhole ds → IsExponent ds × (0 < digits_value 10 ds)
 exponent_of_whole [] w = absurd w
 exponent_of_whole (d ∷ ds) w = (w, below-by_length [] (d ∷ ds) tt w (omega arith))
 

@@ -6,3 +6,11 @@ pub mod DigitOrder
 pub mod ExponentOrder
 pub mod ZeroDenominators
 pub mod LimitPlaces
+pub mod CommonDenominators
+pub mod ScaledTerms
+pub mod ReadNumbers
+pub mod OneReading
+pub mod PrintedWriting
+pub mod PrintedTermFacts
+pub mod PrintedReadings
+pub mod ReadSizes

@@ -25,7 +25,7 @@ use Rattle.irr_cyc.specs.Terms.{term, nonzero_terms}
 use Rattle.irr_numeral.specs.PrintedTerm.{plus_text, printed_power}
 
 -- a fraction of the value 0 has the numerator 0
-zero_of_ratio : (c : ℤ) (d : ℕ) → 0 < d → ratio c d ≡ rationals.zero → c ≡ pos 0
+pub zero_of_ratio : (c : ℤ) (d : ℕ) → 0 < d → ratio c d ≡ rationals.zero → c ≡ pos 0
 zero_of_ratio c d h e =
     let same : ratio c d ≡ ratio (pos 0) 1 = e ∙ sym (ratio-zero 1 (omega arith)) in
     let low : (c *ℤ pos 1) ≤ℤ (pos 0 *ℤ pos d) = le_of_ratio c (pos 0) d 1 h (omega arith) (le_of_eq (ratio c d) (ratio (pos 0) 1) same) in

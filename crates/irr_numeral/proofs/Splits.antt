@@ -105,7 +105,7 @@ pub record IsReadTo (text : List ℕ) (ws : List Written) (rest : List ℕ) : Ty
   pub left : rest ≡ remaining (map written_term ws) after
   pub placed : ArePlaced ws
 
-term_ext : (a b : Bool) (c d : List ℕ) (e f g h : Option (List ℕ)) → a ≡ b → c ≡ d → e ≡ f → g ≡ h
+pub term_ext : (a b : Bool) (c d : List ℕ) (e f g h : Option (List ℕ)) → a ≡ b → c ≡ d → e ≡ f → g ≡ h
     → ◌≡◌ {A = WrittenTerm} (record { negative = a; numerator = c; denominator = e; exponent = g }) (record { negative = b; numerator = d; denominator = f; exponent = h })
 term_ext a b c d e f g h p q r s = cc
 

@@ -3,5 +3,7 @@ pub mod WrittenNumber
 pub mod Front
 pub mod Split
 pub mod TermPlaces
-pub mod NumberFault
 pub mod NumberLimit
+pub mod WrittenValue
+pub mod ScaledTerm
+pub mod NumberFault

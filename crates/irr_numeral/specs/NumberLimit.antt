@@ -1,24 +1,18 @@
 -- The limits on the numbers of a text.
---   coefficient_limit, denominator_limit
 --   IsWithin n t             the numbers of the term t are within their limits, the exponent below the order n
 --   IsFirstBeyond n q t p    p is the place of the first number of t that passes its limit, where t's numerator begins at q
 --   IsBeyondAt n ts p        the same of the first such number of the terms ts
 use Rattle.std.specs.Prelude.{ℕ, ◌≡◌, ◌+◌, ◌<◌, ◌≤◌, ◌⊎◌, List, ◌∷◌, ◌++◌, length, All, IfSome}
 use Rattle.std.specs.Str.Parse.{digits_value}
+use Rattle.irr_numeral.specs.declared.limits.TheConstants.{COEFFICIENT_LIMIT, DENOMINATOR_LIMIT}
 use Rattle.irr_numeral.specs.WrittenNumber.{WrittenTerm, quotient_text}
 use Rattle.irr_numeral.specs.TermPlaces.{numerator_place}
 
-abbrev pub coefficient_limit : ℕ
-coefficient_limit = 1073741824
-
-abbrev pub denominator_limit : ℕ
-denominator_limit = 4096
-
 abbrev pub IsSmallNumerator : WrittenTerm → Type 0
-IsSmallNumerator t = digits_value 10 t.numerator ≤ coefficient_limit
+IsSmallNumerator t = digits_value 10 t.numerator ≤ COEFFICIENT_LIMIT
 
 abbrev pub IsSmallDenominator : WrittenTerm → Type 0
-IsSmallDenominator t = IfSome t.denominator (λ ds. digits_value 10 ds ≤ denominator_limit)
+IsSmallDenominator t = IfSome t.denominator (λ ds. digits_value 10 ds ≤ DENOMINATOR_LIMIT)
 
 abbrev pub IsSmallExponent : ℕ → WrittenTerm → Type 0
 IsSmallExponent n t = IfSome t.exponent (λ ds. digits_value 10 ds < n)

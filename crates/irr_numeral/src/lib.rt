@@ -1,16 +1,20 @@
 //! The text of a number: its printed form, and texts as they are read.
 #![tactic(auto)]
 
+mod denominator;
+mod laws;
 mod limits;
 mod order;
 mod print;
 mod read;
+mod scaled;
 mod shape;
 mod terms;
 mod zero;
 
+pub use laws::{printed_numbers_are_read, texts_read_in_one_way};
 pub use print::print_number;
-pub use read::NumberError;
+pub use read::{NumberError, read_number};
 
 #[cfg(test)]
 mod tests;

@@ -53,6 +53,15 @@ fn beyond(term: &Written, n: u32) -> Option<usize>
     None
 }
 
+/// The number that the digits write, which is at most a limit.
+pub(crate) fn value_within(digits: &[u8], limit: u64) -> u64
+    requires digits { AllDigits 10 digits.now }
+    requires within { digits_value 10 digits.now ≤ limit }
+    ensures { result ≡ digits_value 10 digits.now }
+{
+    capped_value(digits, limit).unwrap()
+}
+
 // Whether the number that the digits write is above a limit.
 fn is_above(digits: &[u8], limit: u64) -> bool
     requires { AllDigits 10 digits.now }

@@ -1,5 +1,5 @@
 -- The faults are those of the terms that were read.
-use Rattle.std.proofs.Common.{◌≡◌, refl, subst, ℕ, List, map, inr, All}
+use Rattle.std.proofs.Common.{◌≡◌, refl, subst, ℕ, List, map, inl, inr, All}
 use Rattle.irr_numeral.specs.declared.terms.Written.{Written}
 use Rattle.irr_numeral.specs.NumberFault.{IsShapeFault, IsZeroFault, IsRangeFault}
 use Rattle.irr_numeral.specs.NumberLimit.{IsBeyondAt}
@@ -23,8 +23,8 @@ range_fault n text ws slice again third p are spells e f g o z h = (
 )
 
 pub returns-in-Some-first_beyond-clause-fault : goal.returns-in-Some-first_beyond-clause-fault
-returns-in-Some-first_beyond-clause-fault c = range_fault c.args.n c.args.text.now c.in-Ok.terms.items c.as_slice.result.now c.as_slice-2.result.now c.as_slice-3.result.now c.in-Some-first_beyond.place c.in-Ok.ensures.are_terms c.in-Ok.ensures.spells
-    c.as_slice.ensures.value c.as_slice-2.ensures.value c.as_slice-3.ensures.value (c.in_default-first_unordered.ensures.none refl) (c.in_default-first_zero.ensures.none refl) c.in-Some-first_beyond.ensures.some
+returns-in-Some-first_beyond-clause-fault c = inl (range_fault c.args.n c.args.text.now c.in-Ok.terms.items c.as_slice.result.now c.as_slice-2.result.now c.as_slice-3.result.now c.in-Some-first_beyond.place c.in-Ok.ensures.are_terms c.in-Ok.ensures.spells
+    c.as_slice.ensures.value c.as_slice-2.ensures.value c.as_slice-3.ensures.value (c.in_default-first_unordered.ensures.none refl) (c.in_default-first_zero.ensures.none refl) c.in-Some-first_beyond.ensures.some)
 
 pub returns-in-Some-clause-fault : goal.returns-in-Some-clause-fault
 returns-in-Some-clause-fault c = shape_fault c.args.text.now c.in-Ok.terms.items c.as_slice.result.now c.in-Some.place c.in-Ok.ensures.are_terms c.in-Ok.ensures.spells c.as_slice.ensures.value c.in-Some.ensures.some
