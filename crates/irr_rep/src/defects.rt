@@ -88,7 +88,8 @@ fn multiplies<S: Scalar>(
     requires checkable { IsCheckable (phase_table t.now) f.now.dim f.now.mats.items }
     requires row { i < place_count t.now }
     requires column { j < place_count t.now }
-    ensures { IfOk result (λ holds. (p : IsCheckable (phase_table t.now) f.now.dim f.now.mats.items) (a b : Fin (place_count t.now)) → to_nat a ≡ i → to_nat b ≡ j
+    ensures { IfOk result (λ holds. (p : IsCheckable (phase_table t.now) f.now.dim f.now.mats.items) (a b : Fin (place_count t.now))
+        → to_nat a ≡ i → to_nat b ≡ j
         → IsTrue holds ↔ Multiplies (phase_table t.now) p.n p.divides f.now.dim f.now.mats.items a b) }
 {
     let product = f.mats[i as usize].mul(alloc, &f.mats[j as usize])?;
@@ -107,8 +108,10 @@ fn expected_product<S: Scalar>(
     requires checkable { IsCheckable (phase_table t.now) f.now.dim f.now.mats.items }
     requires row { i < place_count t.now }
     requires column { j < place_count t.now }
-    ensures { IfOk result (λ m. (p : IsCheckable (phase_table t.now) f.now.dim f.now.mats.items) (a b : Fin (place_count t.now)) → to_nat a ≡ i → to_nat b ≡ j
-        → IsMatrix p.n f.now.dim (scale (numbers p.n) ((phases_over (phase_table t.now) p.n p.divides).phase a b) (matrix_at p.n f.now.dim f.now.mats.items ((phase_table t.now).product a b))) m) }
+    ensures { IfOk result (λ m. (p : IsCheckable (phase_table t.now) f.now.dim f.now.mats.items) (a b : Fin (place_count t.now))
+        → to_nat a ≡ i → to_nat b ≡ j
+        → IsMatrix p.n f.now.dim (scale (numbers p.n) ((phases_over (phase_table t.now) p.n p.divides).phase a b)
+        (matrix_at p.n f.now.dim f.now.mats.items ((phase_table t.now).product a b))) m) }
 {
     let matrix = &f.mats[t.table(i, j) as usize];
     let order = Order::new(alloc, matrix.at(0, 0).order())?;
