@@ -8,6 +8,8 @@ pub mod Members
 pub mod Restrictions
 pub mod Subtables
 pub mod Families
+pub mod MatrixForms
 pub mod TraceRoots
+pub mod WrongPairs
 pub mod Listed
 pub mod Trials

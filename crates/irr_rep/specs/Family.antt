@@ -31,9 +31,11 @@ unfoldable pub matrix_at : {S : Type 0} {G : Ghosts S} {h : ℕ} (n d : ℕ) →
 matrix_at {G = G} n d mats i = matrix_of G.value n d d (slice_index_or (map (λ m. m.entries.items) mats) (to_nat i) [])
 
 -- D(start) = 1 and D(i)D(j) = z^x(i,j) D(l(i,j))
-pub record IsRepresentationOf {S : Type 0} {G : Ghosts S} {h : ℕ} (T : PhaseTable h) (n : ℕ) (v : T.order ∣ n) (d : ℕ) (mats : List (Mat S G)) : Type 0 where
+pub record IsRepresentationOf {S : Type 0} {G : Ghosts S} {h : ℕ} (T : PhaseTable h) (n : ℕ) (v : T.order ∣ n) (d : ℕ)
+    (mats : List (Mat S G)) : Type 0 where
   pub at-start : matrix_at n d mats T.start ≡ unit (numbers n) d
-  pub at-product : (i j : Fin h) → matrix_at n d mats i · matrix_at n d mats j ≡ scale (numbers n) ((phases_over T n v).phase i j) (matrix_at n d mats (T.product i j))
+  pub at-product : (i j : Fin h) → matrix_at n d mats i · matrix_at n d mats j
+      ≡ scale (numbers n) ((phases_over T n v).phase i j) (matrix_at n d mats (T.product i j))
 
 -- the representation with these matrices
 unfoldable pub representation : {S : Type 0} {G : Ghosts S} {h : ℕ} (T : PhaseTable h) (n : ℕ) (v : T.order ∣ n) (d : ℕ) (mats : List (Mat S G))
@@ -41,7 +43,8 @@ unfoldable pub representation : {S : Type 0} {G : Ghosts S} {h : ℕ} (T : Phase
 representation T n v d mats p = record { at = λ i. matrix_at n d mats i; at-start = p.at-start; at-product = p.at-product }
 
 -- the same matrices over the table's own phases
-unfoldable pub at_own_order : {h : ℕ} (T : PhaseTable h) (v : T.order ∣ T.order) {d : ℕ} → Representation (phases_over T T.order v) d → Representation (phases_at T) d
+unfoldable pub at_own_order : {h : ℕ} (T : PhaseTable h) (v : T.order ∣ T.order) {d : ℕ} → Representation (phases_over T T.order v) d
+    → Representation (phases_at T) d
 at_own_order T v A = record {
   at = A.at;
   at-start = A.at-start;

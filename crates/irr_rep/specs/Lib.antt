@@ -1,3 +1,4 @@
+pub mod Defects
 pub mod Family
 pub mod Table
 pub mod TableLaws
