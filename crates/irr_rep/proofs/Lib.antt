@@ -9,6 +9,7 @@ pub mod Restrictions
 pub mod Subtables
 pub mod Families
 pub mod MatrixForms
+pub mod SingleEntries
 pub mod TraceRoots
 pub mod WrongPairs
 pub mod Listed

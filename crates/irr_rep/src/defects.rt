@@ -132,3 +132,6 @@ fn phase_exponent(t: &Twisted, n: u32, i: u32, j: u32) -> u32
 {
     t.phase(i, j) * (n / t.order())
 }
+
+#[cfg(test)]
+mod tests;

@@ -220,4 +220,4 @@ fn position(row: &[u32], value: u32) -> u32
 }
 
 #[cfg(test)]
-mod tests;
+pub(crate) mod tests;

@@ -8,7 +8,7 @@ use std::test::Fail;
 
 // The little group of P2_1 at 0,1/2,0, with z = i: the square of the screw is a lattice translation with
 // the phase -1.
-fn screw_axis(alloc: Global) -> Result<Twisted, Memory>
+pub(crate) fn screw_axis(alloc: Global) -> Result<Twisted, Memory>
     ensures count { IfOk result (λ t. place_count t ≡ 2) }
     ensures subgroup { IfOk result (λ t. IsSubgroup (phase_table t) (0 ∷ [])) }
 {
@@ -50,7 +50,7 @@ fn assert_table(rt: &impl Abort, t: &Twisted, products: &[u32], exponents: &[u32
 }
 
 #[test]
-fn screw_axis_at_the_zone_face(rt: HostRuntime) -> Result<(), Fail> {
+pub(crate) fn screw_axis_at_the_zone_face(rt: HostRuntime) -> Result<(), Fail> {
     let t = screw_axis(rt.alloc())?;
     assert_table(&rt, &t, &[0, 1, 1, 0], &[0, 0, 0, 2], &[0, 1]);
     assert_table(&rt, &t.restrict(rt.alloc(), &[0])?, &[0], &[0], &[0]);
