@@ -72,8 +72,8 @@ fn term<S: Scalar>(
     b[i as usize].mul(alloc, &inverse)
 }
 
-// The whole number that a number is.
-fn whole_number<S: Scalar>(alloc: Global, x: &S) -> Result<u32, Memory>
+/// The whole number that a number is. The error is want of memory.
+pub fn whole_number<S: Scalar>(alloc: Global, x: &S) -> Result<u32, Memory>
     requires whole { (k : ℕ) × (k < 2 ^ 31) × (let n = S.order_of x.now in S.value n x.now ≡ whole (numbers n) k) }
     ensures { (k : ℕ) → (let n = S.order_of x.now in S.value n x.now ≡ whole (numbers n) k) → IfOk result (λ r. r ≡ k) }
 {

@@ -7,7 +7,7 @@ mod laws;
 mod numbers;
 mod rows;
 
-pub use characters::{average, character};
+pub use characters::{average, character, whole_number};
 pub use irr_memory::Memory;
 pub use laws::{dimensions_of_intertwiners, simple_representations};
 pub use rows::order_rows;

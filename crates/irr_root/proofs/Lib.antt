@@ -1,0 +1,10 @@
+pub mod Counts
+pub mod Candidates
+pub mod Phases
+pub mod Walks
+pub mod Repetitions
+pub mod TurnedTraces
+pub mod EigenvalueSums
+pub mod CharacterSums
+pub mod Spacing
+pub mod FamilyCharacters

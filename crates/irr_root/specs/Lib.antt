@@ -1,0 +1,4 @@
+pub mod Eigenvalues
+pub mod Characters
+pub mod Powers
+pub mod Repeated
