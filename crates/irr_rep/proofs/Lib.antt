@@ -12,5 +12,8 @@ pub mod MatrixForms
 pub mod SingleEntries
 pub mod TraceRoots
 pub mod WrongPairs
+pub mod CommonDenominators
+pub mod MultiplesSoFar
+pub mod Clearing
 pub mod Listed
 pub mod Trials

@@ -126,6 +126,22 @@ module _ {S : Type 0} {G : Ghosts S} where
           ∙ ap₂ (scale (numbers n)) e is.value;
     }
 
+-- multiples by a sum of few powers
+pub fit_of_multiple : (n den : ℕ) → n ≤ 12000 → den ≤ 4096 → (d : ℕ) (a : Matrix (numbers n) d d) → IsWithin n (2 ^ 30) den a
+    → (s : ℕ) (x : Number n) → s ≤ 4096 → IsRootSum n s 1 x → MultiplesFit n x a
+fit_of_multiple n den order limited d a u s x l f = record {
+  s = s;
+  d = 1;
+  t = 2 ^ 30;
+  e = den;
+  factor = f;
+  right = u;
+  denominators = omega (arith, limited);
+  sizes =
+      let e : s * n * (2 ^ 30 * n) ≤ 4096 * 12000 * (2 ^ 30 * 12000) = Nat.mul-le-mul (Nat.mul-le-mul l order) (Nat.mul-le-mul_left (2 ^ 30) order) in
+      let k : 4096 * 12000 * (2 ^ 30 * 12000) ≤ 2 ^ 100 = omega arith in Nat.le_trans e k;
+}
+
 -- sizes over one denominator
 module _ (n d den : ℕ) (order : n ≤ 12000) (few : d ≤ 48) (limited : den ≤ 4096) where
   square : den * den ≤ 4096 * 4096
@@ -136,9 +152,6 @@ module _ (n d den : ℕ) (order : n ≤ 12000) (few : d ≤ 48) (limited : den �
 
   one : 1 * n ≤ 1 * 12000
   one = omega (arith, order)
-
-  one_entry : 1 * 2 ^ 30 * n ≤ 1 * 2 ^ 30 * 12000
-  one_entry = omega (arith, order)
 
   over_one : 1 * den ≤ 1 * 4096
   over_one = omega (arith, limited)
@@ -154,20 +167,6 @@ module _ (n d den : ℕ) (order : n ≤ 12000) (few : d ≤ 48) (limited : den �
       right = within-unit n d;
       denominators = omega (arith, limited);
       sizes = let e : 1 * n * den ≤ 1 * 12000 * 4096 = Nat.mul-le-mul one limited in omega (arith, order, e);
-    }
-
-    pub fit_of_multiple : (x : Number n) → IsRootSum n 1 1 x → MultiplesFit n x a
-    fit_of_multiple x f = record {
-      s = 1;
-      d = 1;
-      t = 2 ^ 30;
-      e = den;
-      factor = f;
-      right = u;
-      denominators = omega (arith, limited);
-      sizes =
-          let e : 1 * n * (2 ^ 30 * n) ≤ 1 * 12000 * (2 ^ 30 * 12000) = Nat.mul-le-mul one entries in
-          let l : 1 * 12000 * (2 ^ 30 * 12000) ≤ 2 ^ 100 = omega arith in Nat.le_trans e l;
     }
 
     module _ (b : Matrix (numbers n) d d) (w : IsWithin n (2 ^ 30) den b) where
@@ -192,21 +191,23 @@ module _ (n d den : ℕ) (order : n ≤ 12000) (few : d ≤ 48) (limited : den �
       }
 
       -- a product and a multiple of a third matrix
-      pub fit_of_both : (x : Number n) (c : Matrix (numbers n) d d) → IsRootSum n 1 1 x → IsWithin n (2 ^ 30) den c → SumsFit n (a · b) (scale (numbers n) x c)
-      fit_of_both x c f y = record {
+      pub fit_of_both : (s : ℕ) (x : Number n) (c : Matrix (numbers n) d d) → s ≤ 4096 → IsRootSum n s 1 x → IsWithin n (2 ^ 30) den c
+          → SumsFit n (a · b) (scale (numbers n) x c)
+      fit_of_both s x c small f y = record {
         s = d * (2 ^ 30 * 2 ^ 30);
         d = den * den;
-        t = 1 * 2 ^ 30;
+        t = s * 2 ^ 30;
         e = 1 * den;
         left = within-mul n d d d (2 ^ 30) den (2 ^ 30) den a b u w;
-        right = within-scale n d d 1 1 (2 ^ 30) den x c f y;
+        right = within-scale n d d s 1 (2 ^ 30) den x c f y;
         denominators =
             let e : den * den * (1 * den) ≤ 4096 * 4096 * (1 * 4096) = Nat.mul-le-mul square over_one in
             let l : 4096 * 4096 * (1 * 4096) ≤ 2 ^ 60 = omega arith in Nat.le_trans e l;
         sizes =
             let e : d * (2 ^ 30 * 2 ^ 30) * n * (1 * den) ≤ 48 * (2 ^ 30 * 2 ^ 30) * 12000 * (1 * 4096) =
             Nat.mul-le-mul (Nat.mul-le-mul (Nat.mul-le-mul_right (2 ^ 30 * 2 ^ 30) few) order) over_one in
-            let k : 1 * 2 ^ 30 * n * (den * den) ≤ 1 * 2 ^ 30 * 12000 * (4096 * 4096) = Nat.mul-le-mul one_entry square in
-            let l : 48 * (2 ^ 30 * 2 ^ 30) * 12000 * (1 * 4096) + 1 * 2 ^ 30 * 12000 * (4096 * 4096) < 2 ^ 110 = omega arith in
+            let k : s * 2 ^ 30 * n * (den * den) ≤ 4096 * 2 ^ 30 * 12000 * (4096 * 4096) =
+            Nat.mul-le-mul (Nat.mul-le-mul (Nat.mul-le-mul_right (2 ^ 30) small) order) square in
+            let l : 48 * (2 ^ 30 * 2 ^ 30) * 12000 * (1 * 4096) + 4096 * 2 ^ 30 * 12000 * (4096 * 4096) < 2 ^ 110 = omega arith in
             Nat.lt_of_le_of_lt (Nat.add-le-add e k) l;
       }

@@ -1,4 +1,5 @@
 -- Families of matrices of one row, made one after another.
+--   item                              what stands at a place
 --   only_item, single_order, single_within        a list of one number
 --   IsSingle n m                      m has one row and one column, and its entry is a power of z of the order n
 --   SinglesSoFar, singles-none, singles-more      the first k of them
@@ -24,7 +25,7 @@ use Rattle.irr_rep.specs.Family.{matrix_at}
 use Rattle.irr_rep.proofs.Families.{matrix_at-item}
 
 -- what stands at a place
-item : {A : Type 0} (xs : List A) (k : ℕ) → k < length xs → (x : A) × (x ≡ get_or xs k x)
+pub item : {A : Type 0} (xs : List A) (k : ℕ) → k < length xs → (x : A) × (x ≡ get_or xs k x)
 item [] k l = absurd (omega arith)
 item (y ∷ ys) k l = (get_or (y ∷ ys) k y, sym (get_or_default (y ∷ ys) k (get_or (y ∷ ys) k y) y l))
 
@@ -66,17 +67,19 @@ module _ {S : Type 0} {G : Ghosts S} (n : ℕ) where
   checkable_singles {h} T v mats s = record {
     n = n;
     divides = v;
-    shape = record {
-      count = s.count;
-      positive = omega arith;
-      rows = λ k d l. (s.single k d l).rows;
-      cols = λ k d l. (s.single k d l).cols;
-      orders = λ k d l. (s.single k d l).order;
-    };
-    few = omega arith;
     denominator = 1;
-    limited = omega arith;
-    within = within;
+    limits = record {
+      shape = record {
+        count = s.count;
+        positive = omega arith;
+        rows = λ k d l. (s.single k d l).rows;
+        cols = λ k d l. (s.single k d l).cols;
+        orders = λ k d l. (s.single k d l).order;
+      };
+      few = omega arith;
+      limited = omega arith;
+      within = within;
+    };
   }
     where
       within : (i : Fin h) → IsWithin n (2 ^ 30) 1 (matrix_at n 1 mats i)

@@ -2,15 +2,17 @@
 ghost use Rattle.std.specs.Prelude.{ℕ, ◌≡◌, ◌<◌, ◌≤◌, ◌*◌, ◌/◌, ◌↔◌, IfOk, IsTrue};
 ghost use Rattle.std.specs.Int.{◌∣◌};
 ghost use Rattle.irr_algebra.specs.Fin.{Fin, to_nat};
-ghost use Rattle.irr_algebra.specs.Matrix.{◌·◌, scale, unit};
+ghost use Rattle.irr_algebra.specs.Matrix.{scale, unit};
+ghost use Rattle.irr_algebra.specs.Ring.{whole};
 ghost use Rattle.irr_number.specs.Number.{numbers};
 ghost use Rattle.irr_space.specs.PhaseTable.{phases_over};
 ghost use Rattle.irr_cyc.specs.declared.orders.TheConstants.{ORDER_LIMIT};
 ghost use Rattle.irr_mat.specs.Entries.{first_order};
 ghost use Rattle.irr_rep.specs.Family.{matrix_at};
 ghost use Rattle.irr_rep.specs.Twisted.{place_count, phase_table};
-ghost use Rattle.irr_rep.specs.Defects.{IsCheckable, IsFirstDefect, IsFirstWrongIn, IsMatrix, Multiplies};
+ghost use Rattle.irr_rep.specs.Defects.{IsCheckable, IsFirstDefect, IsFirstFailure, IsMatrix, MultipliesBy};
 
+use crate::cleared::{common_denominator, multiple_of_power, multiples};
 use crate::family::{Defect, Family};
 use crate::table::Twisted;
 use irr_cyc::{Order, Scalar};
@@ -37,8 +39,11 @@ pub fn first_defect<S: Scalar>(
     if !has_unit(alloc, t, f)? {
         return Ok(Some(Defect::Unit));
     }
+    let number = common_denominator(alloc, f)?;
+    let mats = multiples(alloc, f, number)?;
+    let cleared = Family { dim: f.dim, mats };
     for i in 0..t.len() {
-        if let Some(j) = first_wrong(alloc, t, f, i)? {
+        if let Some(j) = first_wrong(alloc, t, &cleared, number, i)? {
             return Ok(Some(Defect::Product { i, j }));
         }
     }
@@ -57,65 +62,74 @@ fn has_unit<S: Scalar>(alloc: Global, t: &Twisted, f: &Family<S>) -> Result<bool
     Ok(first.equal(&unit))
 }
 
-// The first place j at which the product of the matrices at i and j is wrong.
+// The first place j at which the product of the matrices at i and j is wrong, in a family times a number.
 fn first_wrong<S: Scalar>(
     alloc: Global,
     t: &Twisted,
     f: &Family<S>,
+    number: u32,
     i: u32,
 ) -> Result<Option<u32>, Memory>
     requires checkable { IsCheckable (phase_table t.now) f.now.dim f.now.mats.items }
+    requires positive { 0 < number }
+    requires limited { number ≤ 4096 }
     requires place { i < place_count t.now }
     ensures { IfOk result (λ wrong. (p : IsCheckable (phase_table t.now) f.now.dim f.now.mats.items) (a : Fin (place_count t.now)) → to_nat a ≡ i
-        → IsFirstWrongIn (phase_table t.now) p.n p.divides f.now.dim f.now.mats.items a wrong) }
+        → IsFirstFailure (MultipliesBy (phase_table t.now) p.n p.divides f.now.dim f.now.mats.items number a) wrong) }
 {
     for j in 0..t.len() {
-        if !multiplies(alloc, t, f, i, j)? {
+        if !multiplies(alloc, t, f, number, i, j)? {
             return Ok(Some(j));
         }
     }
     Ok(None)
 }
 
-// Whether the product of the matrices at i and j is right.
+// Whether the product of the matrices at i and j is right, in a family times a number.
 fn multiplies<S: Scalar>(
     alloc: Global,
     t: &Twisted,
     f: &Family<S>,
+    number: u32,
     i: u32,
     j: u32,
 ) -> Result<bool, Memory>
     requires checkable { IsCheckable (phase_table t.now) f.now.dim f.now.mats.items }
+    requires positive { 0 < number }
+    requires limited { number ≤ 4096 }
     requires row { i < place_count t.now }
     requires column { j < place_count t.now }
     ensures { IfOk result (λ holds. (p : IsCheckable (phase_table t.now) f.now.dim f.now.mats.items) (a b : Fin (place_count t.now))
         → to_nat a ≡ i → to_nat b ≡ j
-        → IsTrue holds ↔ Multiplies (phase_table t.now) p.n p.divides f.now.dim f.now.mats.items a b) }
+        → IsTrue holds ↔ MultipliesBy (phase_table t.now) p.n p.divides f.now.dim f.now.mats.items number a b) }
 {
     let product = f.mats[i as usize].mul(alloc, &f.mats[j as usize])?;
-    let expected = expected_product(alloc, t, f, i, j)?;
+    let expected = expected_product(alloc, t, f, number, i, j)?;
     Ok(product.equal(&expected))
 }
 
-// The phase of places i and j times the matrix at their product.
+// A number times the phase of places i and j times the matrix at their product.
 fn expected_product<S: Scalar>(
     alloc: Global,
     t: &Twisted,
     f: &Family<S>,
+    number: u32,
     i: u32,
     j: u32,
 ) -> Result<Mat<S>, Memory>
     requires checkable { IsCheckable (phase_table t.now) f.now.dim f.now.mats.items }
+    requires positive { 0 < number }
+    requires limited { number ≤ 4096 }
     requires row { i < place_count t.now }
     requires column { j < place_count t.now }
     ensures { IfOk result (λ m. (p : IsCheckable (phase_table t.now) f.now.dim f.now.mats.items) (a b : Fin (place_count t.now))
         → to_nat a ≡ i → to_nat b ≡ j
-        → IsMatrix p.n f.now.dim (scale (numbers p.n) ((phases_over (phase_table t.now) p.n p.divides).phase a b)
+        → IsMatrix p.n f.now.dim (scale (numbers p.n) ((numbers p.n).mul (whole (numbers p.n) number) ((phases_over (phase_table t.now) p.n p.divides).phase a b))
         (matrix_at p.n f.now.dim f.now.mats.items ((phase_table t.now).product a b))) m) }
 {
     let matrix = &f.mats[t.table(i, j) as usize];
     let order = Order::new(alloc, matrix.at(0, 0).order())?;
-    let phase = S::root(alloc, &order, phase_exponent(t, order.n(), i, j))?;
+    let phase = multiple_of_power(alloc, &order, number, phase_exponent(t, order.n(), i, j))?;
     matrix.scale(alloc, &phase)
 }
 

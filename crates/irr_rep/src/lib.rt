@@ -2,6 +2,7 @@
 //! translations.
 #![tactic(auto)]
 
+mod cleared;
 mod cycle;
 mod defects;
 mod family;

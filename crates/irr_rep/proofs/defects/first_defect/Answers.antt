@@ -3,10 +3,47 @@ use Rattle.std.proofs.Common.{◌≡◌, ◌+◌, ◌<◌, ◌≤◌, ◌⊎◌,
 use Rattle.std.proofs.lemmas.Bool.{cases_lt}
 use Rattle.irr_algebra.specs.Fin.{to_nat}
 use Rattle.irr_algebra.proofs.Indices.{from_nat, to_nat-from_nat, to_nat-lt}
-use Rattle.irr_rep.specs.Defects.{IsFirstWrongIn}
+use Rattle.irr_rep.specs.Defects.{IsFirstFailure, Multiplies, MultipliesBy}
+use Rattle.irr_rep.proofs.CommonDenominators.{checkable_multiples, denominator_positive, divisor_within, family_order, multiplies-from, multiplies-to}
+use Rattle.irr_number.proofs.Primes.{divisor_pos}
 use Rattle.irr_rep.specs.Twisted.{place_count, phase_table}
-use Rattle.irr_rep.proofs.WrongPairs.{is-true, no_unit, not-true, right_all, row_right, wrong_pair}
+use Rattle.irr_rep.proofs.WrongPairs.{failure-map, is-true, no_unit, not-true, right_all, row_right, wrong_pair}
 use Rattle.irr_rep.proofs.defects.first_defect.Goals as goal
+
+pub common_denominator-requires : goal.common_denominator-requires
+common_denominator-requires g c = (c.requires.n, place_count c.args.t.now, c.requires.denominator, c.requires.limits)
+
+pub multiples-requires : goal.multiples-requires
+multiples-requires g c =
+    let p = c.requires in
+    let h = place_count c.args.t.now in
+    (p.n, h, p.denominator, p.limits, c.in_ok-number.ensures p.n h p.denominator p.limits)
+
+pub first_wrong-requires-clause-checkable : goal.first_wrong-requires-clause-checkable
+first_wrong-requires-clause-checkable g c =
+    let f = c.args.f.now in
+    let p = c.requires in
+    let h = place_count c.args.t.now in
+    checkable_multiples (phase_table c.args.t.now) f.dim c.in_ok-number.number f.mats.items c.in_ok-mats.mats.items p
+    (c.in_ok-number.ensures p.n h p.denominator p.limits) (c.in_ok-mats.ensures p.n h p.denominator p.limits)
+
+pub first_wrong-requires-clause-positive : goal.first_wrong-requires-clause-positive
+first_wrong-requires-clause-positive g c =
+    let f = c.args.f.now in
+    let p = c.requires in
+    let h = place_count c.args.t.now in
+    divisor_pos c.in_ok-number.number p.denominator
+    (denominator_positive p.n h f.dim p.denominator f.mats.items p.limits (phase_table c.args.t.now).start)
+    (c.in_ok-number.ensures p.n h p.denominator p.limits)
+
+pub first_wrong-requires-clause-limited : goal.first_wrong-requires-clause-limited
+first_wrong-requires-clause-limited g c =
+    let f = c.args.f.now in
+    let p = c.requires in
+    let h = place_count c.args.t.now in
+    divisor_within c.in_ok-number.number p.denominator
+    (denominator_positive p.n h f.dim p.denominator f.mats.items p.limits (phase_table c.args.t.now).start) p.limits.limited
+    (c.in_ok-number.ensures p.n h p.denominator p.limits)
 
 pub returns-then-not-branch : goal.returns-then-not-branch
 returns-then-not-branch g c p =
@@ -17,13 +54,25 @@ returns-then-not-branch g c p =
 pub returns-in-Some : goal.returns-in-Some
 returns-in-Some g c p =
     let f = c.args.f.now in
+    let T = phase_table c.args.t.now in
     let h = place_count c.args.t.now in
+    let q = c.in_ok-number.number in
+    let mats = c.in_ok-mats.mats.items in
+    let v = c.in_ok-number.ensures p.n h p.denominator p.limits in
+    let are = c.in_ok-mats.ensures p.n h p.denominator p.limits in
+    let some = divisor_pos q p.denominator (denominator_positive p.n h f.dim p.denominator f.mats.items p.limits T.start) v in
+    let positive = family_order (λ u. 0 < u) (λ x. g.met.S.Scalar.admitted_positive (g.S.Scalar.order_of x) (g.met.S.Scalar.order_admitted x))
+    p.n h f.dim f.mats.items p.limits.shape c.args.t.now.not_empty in
     let l : c.loop-i.i < h = search rules in
     let a = from_nat h c.loop-i.i l in
     let e = to_nat-from_nat h c.loop-i.i l in
     wrong_pair (phase_table c.args.t.now) p.n p.divides f.dim f.mats.items
     ((c.in_ok-has_unit.ensures p).0 (is-true c.in_ok-has_unit.field-0 c.if-not-branch.false)) a c.loop-i.i c.in-Some.j e
-    (subst (IsFirstWrongIn (phase_table c.args.t.now) p.n p.divides f.dim f.mats.items a) c.in-Some.is (c.in_ok-j.ensures p a e))
+    (subst (IsFirstFailure (Multiplies T p.n p.divides f.dim f.mats.items a)) c.in-Some.is
+    (failure-map (MultipliesBy T p.n p.divides f.dim mats q a) (Multiplies T p.n p.divides f.dim f.mats.items a) c.in_ok-j.field-0
+    (multiplies-to T p.n p.divides f.dim q f.mats.items mats positive some are a)
+    (multiplies-from T p.n p.divides f.dim q f.mats.items mats positive some are a)
+    (c.in_ok-j.ensures (checkable_multiples T f.dim q f.mats.items mats p v are) a e)))
     (λ b q. c.loop-i.invariant p b q)
 
 -- a row before the next
@@ -35,12 +84,23 @@ before_next k i l = go (cases_lt k i)
     go (inr b) = inr (omega (arith, l, b))
 
 pub loop-i-preserved : goal.loop-i-preserved
-loop-i-preserved g c p a q l =
+loop-i-preserved g c p a b l =
     let f = c.args.f.now in
+    let T = phase_table c.args.t.now in
+    let h = place_count c.args.t.now in
+    let q = c.in_ok-number.number in
+    let mats = c.in_ok-mats.mats.items in
+    let v = c.in_ok-number.ensures p.n h p.denominator p.limits in
+    let are = c.in_ok-mats.ensures p.n h p.denominator p.limits in
+    let some = divisor_pos q p.denominator (denominator_positive p.n h f.dim p.denominator f.mats.items p.limits T.start) v in
+    let positive = family_order (λ u. 0 < u) (λ x. g.met.S.Scalar.admitted_positive (g.S.Scalar.order_of x) (g.met.S.Scalar.order_admitted x))
+    p.n h f.dim f.mats.items p.limits.shape c.args.t.now.not_empty in
     elim (before_next (to_nat a) c.loop-i.i l) [
-      | inl b ↦ c.loop-i.invariant p a q b
-      | inr e ↦ row_right (phase_table c.args.t.now) p.n p.divides f.dim f.mats.items a
-          (subst (IsFirstWrongIn (phase_table c.args.t.now) p.n p.divides f.dim f.mats.items a) c.in_default.is (c.in_ok-j.ensures p a e)) q
+      | inl less ↦ c.loop-i.invariant p a b less
+      | inr e ↦ multiplies-to T p.n p.divides f.dim q f.mats.items mats positive some are a b
+          (row_right (MultipliesBy T p.n p.divides f.dim mats q a)
+          (subst (IsFirstFailure (MultipliesBy T p.n p.divides f.dim mats q a)) c.in_default.is
+          (c.in_ok-j.ensures (checkable_multiples T f.dim q f.mats.items mats p v are) a e)) b)
     ]
 
 pub returns : goal.returns

@@ -16,8 +16,8 @@ equal-requires-clause-sizes g c =
     let T = phase_table c.args.t.now in
     let p = c.requires in
     let first = c.index-first.result.now in
-    let l : 0 < length f.mats.items = subst (λ k. 0 < k) (sym p.shape.count) c.args.t.now.not_empty in
-    let m = item-matrix p.n f.dim f.mats.items 0 first l c.index-first.ensures p.shape T.start T.start_first in
+    let l : 0 < length f.mats.items = subst (λ k. 0 < k) (sym p.limits.shape.count) c.args.t.now.not_empty in
+    let m = item-matrix p.n f.dim f.mats.items 0 first l c.index-first.ensures p.limits.shape T.start T.start_first in
     let order : c.in_ok-order.order.n ≡ p.n = c.in_ok-order.ensures ∙ c.order.ensures ∙ c.at.ensures.order ∙ m.order in
     sums_fit p.n f.dim (matrix_at p.n f.dim f.mats.items T.start) (unit (numbers p.n) f.dim) first c.in_ok-unit.unit m
     (record {
@@ -26,7 +26,7 @@ equal-requires-clause-sizes g c =
       order = c.in_ok-unit.ensures.order ∙ order;
       value = subst (λ u. matrix_of value u f.dim f.dim c.in_ok-unit.unit.entries.items ≡ unit (numbers u) f.dim) order c.in_ok-unit.ensures.value;
     })
-    (fit_of_unit p.n f.dim p.denominator (subst (λ u. u ≤ 12000) order c.in_ok-order.order.limited) p.few p.limited (matrix_at p.n f.dim f.mats.items T.start) (p.within T.start))
+    (fit_of_unit p.n f.dim p.denominator (subst (λ u. u ≤ 12000) order c.in_ok-order.order.limited) p.limits.few p.limits.limited (matrix_at p.n f.dim f.mats.items T.start) (p.limits.within T.start))
 
 pub returns : goal.returns
 returns g c p =
@@ -34,8 +34,8 @@ returns g c p =
     let f = c.args.f.now in
     let T = phase_table c.args.t.now in
     let first = c.index-first.result.now in
-    let l : 0 < length f.mats.items = subst (λ k. 0 < k) (sym p.shape.count) c.args.t.now.not_empty in
-    let m = item-matrix p.n f.dim f.mats.items 0 first l c.index-first.ensures p.shape T.start T.start_first in
+    let l : 0 < length f.mats.items = subst (λ k. 0 < k) (sym p.limits.shape.count) c.args.t.now.not_empty in
+    let m = item-matrix p.n f.dim f.mats.items 0 first l c.index-first.ensures p.limits.shape T.start T.start_first in
     let order : c.in_ok-order.order.n ≡ p.n = c.in_ok-order.ensures ∙ c.order.ensures ∙ c.at.ensures.order ∙ m.order in
     let u : IsMatrix p.n f.dim (unit (numbers p.n) f.dim) c.in_ok-unit.unit = record {
       rows = c.in_ok-unit.ensures.rows;
