@@ -22,7 +22,8 @@ few_powers n s t l p q =
     let b : 48 * 12000 * (2304 * 12000) ≤ 2 ^ 100 = omega arith in
     Nat.le_trans a b
 
-module _ {S : Type 0} (order : S → ℕ) (value : (n : ℕ) → S → Number n) (n h : ℕ) (row : List S) (small : IsSmallRow order value n h row) (k : ℕ) (l : k < h) (x : S) (is : x ≡ get_or row k x) where
+module _ {S : Type 0} (order : S → ℕ) (value : (n : ℕ) → S → Number n) (n h : ℕ) (row : List S) (small : IsSmallRow order value n h row) (k : ℕ)
+    (l : k < h) (x : S) (is : x ≡ get_or row k x) where
   within : k < length row
   within = subst (λ m. k < m) (sym small.count) l
 
@@ -45,6 +46,8 @@ module _ {h : ℕ} (T : PhaseTable h) (n : ℕ) (f g : Fin h → Number n) where
   unfolding average_term
   term-value p z u x y q r s v = v ∙ ap₂ (numbers n).mul s (ap₂ (numbers n).mul q r)
 
-  pub term-small : ((i : Fin h) → IsRootSum n 48 1 (f i)) → ((i : Fin h) → IsRootSum n 48 1 (g i)) → (p : Fin h) → IsRootSum n (48 * (1 * 48)) (1 * (1 * 1)) (average_term T n f g p)
+  pub term-small : ((i : Fin h) → IsRootSum n 48 1 (f i)) → ((i : Fin h) → IsRootSum n 48 1 (g i)) → (p : Fin h)
+      → IsRootSum n (48 * (1 * 48)) (1 * (1 * 1)) (average_term T n f g p)
   unfolding average_term
-  term-small a b p = IsRootSum-mul n (b p) (IsRootSum-mul n (IsRootSum-root n ((T.order - 1) * T.exponent p (T.opposite p) % T.order * (n / T.order))) (a (T.opposite p)))
+  term-small a b p = IsRootSum-mul n (b p) (IsRootSum-mul n (IsRootSum-root n ((T.order - 1) * T.exponent p (T.opposite p) % T.order * (n / T.order)))
+      (a (T.opposite p)))

@@ -5,7 +5,9 @@
 --   ordered_by_terms              the first term that differs decides
 --   ordered_by_last_term, ordered_by_other_term      where the terms of one number have ended
 --   same_by_terms                 the same terms
-use Rattle.std.proofs.Common.{◌≡◌, refl, sym, ◌∙◌, ap, ap₂, subst, ℕ, ℤ, pos, negsuc, suc, ◌+◌ as ◌+ℕ◌, ◌*◌ as ◌*ℕ◌, ◌/◌, ◌%◌, ◌-◌, ◌<◌, ◌≤◌, ◌+ℤ◌, ◌*ℤ◌, ◌≤ℤ◌, ◌<ℤ◌, ◌⊎◌, inl, inr, List, length, arith, lit<, mod-lt, mul_comm, suc-mul, zero-mul, neg_ℤ, Ordering, Less, Equal, Greater}
+use Rattle.std.proofs.Common.{◌≡◌, refl, sym, ◌∙◌, ap, ap₂, subst, ℕ, ℤ, pos, negsuc, suc, ◌+◌ as ◌+ℕ◌, ◌*◌ as ◌*ℕ◌, ◌/◌, ◌%◌, ◌-◌, ◌<◌, ◌≤◌, ◌+ℤ◌}
+use Rattle.std.proofs.Common.{◌*ℤ◌, ◌≤ℤ◌, ◌<ℤ◌, ◌⊎◌, inl, inr, List, length, arith, lit<, mod-lt, mul_comm, suc-mul, zero-mul, neg_ℤ, Ordering, Less}
+use Rattle.std.proofs.Common.{Equal, Greater}
 use Rattle.std.proofs.lemmas.Bool.{cases_lt}
 use Rattle.std.proofs.lemmas.Int.{ints}
 use Rattle.std.specs.Ordering.{MatchOrdering, int_cmp, nat_cmp, ordering_reverse}
@@ -76,11 +78,15 @@ add_less : (k : ℤ) (m n : ℕ) → m < n → (k +ℤ pos m) <ℤ (k +ℤ pos n
 add_less k m n l = omega (arith, ints)
 
 -- of one whole part, what is left over it decides
-pub rest_less : (a c : ℤ) (b d : ℕ) → 0 < b → 0 < d → int_div_euclid a (pos b) ≡ int_div_euclid c (pos d) → rest a b *ℕ d < rest c d *ℕ b → ratio a b <ℚ ratio c d
-rest_less a c b d p q e l = ratio-lt a c b d p q (subst (λ z. z <ℤ (c *ℤ pos b)) (sym (cross a b d p)) (subst (λ z. ((int_div_euclid a (pos b) *ℤ pos (b *ℕ d)) +ℤ pos (rest a b *ℕ d)) <ℤ z)
-    (ap₂ (λ k m. (k *ℤ pos m) +ℤ pos (rest c d *ℕ b)) e (mul_comm b d) ∙ sym (cross c d b q)) (add_less (int_div_euclid a (pos b) *ℤ pos (b *ℕ d)) (rest a b *ℕ d) (rest c d *ℕ b) l)))
+pub rest_less : (a c : ℤ) (b d : ℕ) → 0 < b → 0 < d → int_div_euclid a (pos b) ≡ int_div_euclid c (pos d) → rest a b *ℕ d < rest c d *ℕ b
+    → ratio a b <ℚ ratio c d
+rest_less a c b d p q e l = ratio-lt a c b d p q (subst (λ z. z <ℤ (c *ℤ pos b)) (sym (cross a b d p))
+    (subst (λ z. ((int_div_euclid a (pos b) *ℤ pos (b *ℕ d)) +ℤ pos (rest a b *ℕ d)) <ℤ z)
+    (ap₂ (λ k m. (k *ℤ pos m) +ℤ pos (rest c d *ℕ b)) e (mul_comm b d) ∙ sym (cross c d b q))
+    (add_less (int_div_euclid a (pos b) *ℤ pos (b *ℕ d)) (rest a b *ℕ d) (rest c d *ℕ b) l)))
 
-pub rest_same : (a c : ℤ) (b d : ℕ) → 0 < b → 0 < d → int_div_euclid a (pos b) ≡ int_div_euclid c (pos d) → rest a b *ℕ d ≡ rest c d *ℕ b → ratio a b ≡ ratio c d
+pub rest_same : (a c : ℤ) (b d : ℕ) → 0 < b → 0 < d → int_div_euclid a (pos b) ≡ int_div_euclid c (pos d) → rest a b *ℕ d ≡ rest c d *ℕ b
+    → ratio a b ≡ ratio c d
 rest_same a c b d p q e s = ratio_same a c b d p q (cross a b d p
     ∙ ap₂ (λ k m. k +ℤ pos m) (ap₂ (λ k m. k *ℤ pos m) e (mul_comm b d)) s ∙ sym (cross c d b q))
 
@@ -90,16 +96,19 @@ match_weaker Less f g h m = f m
 match_weaker Equal f g h m = g m
 match_weaker Greater f g h m = h m
 
-pub by_whole : (a c : ℤ) (b d : ℕ) → 0 < b → 0 < d → ¬ (int_div_euclid a (pos b) ≡ int_div_euclid c (pos d)) → (o : Ordering) → o ≡ int_cmp (int_div_euclid a (pos b)) (int_div_euclid c (pos d))
+pub by_whole : (a c : ℤ) (b d : ℕ) → 0 < b → 0 < d → ¬ (int_div_euclid a (pos b) ≡ int_div_euclid c (pos d)) → (o : Ordering)
+    → o ≡ int_cmp (int_div_euclid a (pos b)) (int_div_euclid c (pos d))
     → MatchOrdering o (ratio a b <ℚ ratio c d) (ratio a b ≡ ratio c d) (ratio c d <ℚ ratio a b)
-by_whole a c b d p q n o e = match_weaker {S = ratio a b <ℚ ratio c d} {T = ratio a b ≡ ratio c d} {U = ratio c d <ℚ ratio a b} o (whole_less a c b d p q) (λ s. absurd (n s)) (whole_less c a d b q p)
+by_whole a c b d p q n o e = match_weaker {S = ratio a b <ℚ ratio c d} {T = ratio a b ≡ ratio c d} {U = ratio c d <ℚ ratio a b} o
+    (whole_less a c b d p q) (λ s. absurd (n s)) (whole_less c a d b q p)
     (int_ranked (int_div_euclid a (pos b)) (int_div_euclid c (pos d)) o e)
 
 pub by_rest : (a c : ℤ) (b d : ℕ) → 0 < b → 0 < d → int_div_euclid a (pos b) ≡ int_div_euclid c (pos d)
     → (o : Ordering) → o ≡ nat_cmp (unsigned_abs (int_rem_euclid a (pos b)) *ℕ d) (unsigned_abs (int_rem_euclid c (pos d)) *ℕ b)
     → MatchOrdering o (ratio a b <ℚ ratio c d) (ratio a b ≡ ratio c d) (ratio c d <ℚ ratio a b)
 unfolding rest
-by_rest a c b d p q s o e = match_weaker {S = ratio a b <ℚ ratio c d} {T = ratio a b ≡ ratio c d} {U = ratio c d <ℚ ratio a b} o (rest_less a c b d p q s) (rest_same a c b d p q s) (rest_less c a d b q p (sym s))
+by_rest a c b d p q s o e = match_weaker {S = ratio a b <ℚ ratio c d} {T = ratio a b ≡ ratio c d} {U = ratio c d <ℚ ratio a b} o
+    (rest_less a c b d p q s) (rest_same a c b d p q s) (rest_less c a d b q p (sym s))
     (ranked (unsigned_abs (int_rem_euclid a (pos b)) *ℕ d) (unsigned_abs (int_rem_euclid c (pos d)) *ℕ b) o e)
 
 pub positive_ratio : (c : ℤ) (d : ℕ) → 0 < d → pos 0 ≤ℤ c → ¬ (c ≡ pos 0) → rationals.zero <ℚ ratio c d
@@ -143,21 +152,26 @@ written n x d ts p h = record {
     terms : AreTermsOf n (canonical n x).num.at ts
     terms = subst (AreTermsOf n (canonical n x).num.at) (sym h.same_terms) (terms_of n (canonical n x).num.at)
 
-    no_term : (j : ℕ) → ((i : ℕ) × (i < length ts) × ((term_at ts i).0 ≡ j)) ⊎ ((canonical n x).num.at j ≡ pos 0) → ((i : ℕ) × (i < length ts) × ((term_at ts i).0 ≡ j)) ⊎ (ratio ((canonical n x).num.at j) (denominator n x) ≡ rationals.zero)
+    no_term : (j : ℕ) → ((i : ℕ) × (i < length ts) × ((term_at ts i).0 ≡ j)) ⊎ ((canonical n x).num.at j ≡ pos 0)
+        → ((i : ℕ) × (i < length ts) × ((term_at ts i).0 ≡ j)) ⊎ (ratio ((canonical n x).num.at j) (denominator n x) ≡ rationals.zero)
     no_term j (inl q) = inl q
     no_term j (inr z) = inr (ap₂ ratio z (sym h.same_denominator) ∙ ratio-zero d p)
 
-module _ (n : ℕ) (x y : Number n) (d e : ℕ) (xs ys : List (ℕ × ℤ)) (wx : IsWritten n x d xs) (wy : IsWritten n y e ys) (k : ℕ) (kx : k ≤ length xs) (ky : k ≤ length ys)
+module _ (n : ℕ) (x y : Number n) (d e : ℕ) (xs ys : List (ℕ × ℤ)) (wx : IsWritten n x d xs) (wy : IsWritten n y e ys) (k : ℕ) (kx : k ≤ length xs)
+    (ky : k ≤ length ys)
     (same : (i : ℕ) → i < k → IsSameTerm d e (term_at xs i) (term_at ys i)) where
   shared : (i j : ℕ) → i < k → (term_at xs i).0 ≡ j → coefficient n x j ≡ coefficient n y j
-  shared i j l s = sym (ap (coefficient n x) s) ∙ wx.value i (omega arith) ∙ (same i l).1 ∙ sym (wy.value i (omega arith)) ∙ ap (coefficient n y) (sym (same i l).0 ∙ s)
+  shared i j l s = sym (ap (coefficient n x) s) ∙ wx.value i (omega arith) ∙ (same i l).1 ∙ sym (wy.value i (omega arith))
+      ∙ ap (coefficient n y) (sym (same i l).0 ∙ s)
 
   -- below t, where the terms from k on have no exponent below t
-  pub coefficients_below : (t : ℕ) → ((i : ℕ) → k ≤ i → i < length xs → t ≤ (term_at xs i).0) → ((i : ℕ) → k ≤ i → i < length ys → t ≤ (term_at ys i).0)
+  pub coefficients_below : (t : ℕ) → ((i : ℕ) → k ≤ i → i < length xs → t ≤ (term_at xs i).0)
+      → ((i : ℕ) → k ≤ i → i < length ys → t ≤ (term_at ys i).0)
       → (j : ℕ) → j < t → j < n → coefficient n x j ≡ coefficient n y j
   coefficients_below t fx fy j l m = by_places (wx.complete j m) (wy.complete j m)
     where
-      by_places : ((i : ℕ) × (i < length xs) × ((term_at xs i).0 ≡ j)) ⊎ (coefficient n x j ≡ rationals.zero) → ((i : ℕ) × (i < length ys) × ((term_at ys i).0 ≡ j)) ⊎ (coefficient n y j ≡ rationals.zero)
+      by_places : ((i : ℕ) × (i < length xs) × ((term_at xs i).0 ≡ j)) ⊎ (coefficient n x j ≡ rationals.zero)
+          → ((i : ℕ) × (i < length ys) × ((term_at ys i).0 ≡ j)) ⊎ (coefficient n y j ≡ rationals.zero)
           → coefficient n x j ≡ coefficient n y j
       by_places (inl p) q = elim (cases_lt p.0 k) [
         | inl b ↦ shared p.0 j b p.2
@@ -178,19 +192,23 @@ module _ (n : ℕ) (x y : Number n) (d e : ℕ) (xs ys : List (ℕ × ℤ)) (wx 
 
   module _ (l : k < length xs) (beyond : (i : ℕ) → k ≤ i → i < length ys → (term_at xs k).0 < (term_at ys i).0) where
     before_t : (j : ℕ) → j < (term_at xs k).0 → coefficient n x j ≡ coefficient n y j
-    before_t j m = coefficients_below (term_at xs k).0 (from_term l) (λ i g h. (let b : (term_at xs k).0 < (term_at ys i).0 = beyond i g h in omega arith)) j m
+    before_t j m = coefficients_below (term_at xs k).0 (from_term l)
+        (λ i g h. (let b : (term_at xs k).0 < (term_at ys i).0 = beyond i g h in omega arith)) j m
         (let b : (term_at xs k).0 < n = wx.below k l in omega arith)
 
     -- y has no term with this exponent
     none : coefficient n y (term_at xs k).0 ≡ rationals.zero
     none = by_place (wy.complete (term_at xs k).0 (wx.below k l))
       where
-        by_place : ((i : ℕ) × (i < length ys) × ((term_at ys i).0 ≡ (term_at xs k).0)) ⊎ (coefficient n y (term_at xs k).0 ≡ rationals.zero) → coefficient n y (term_at xs k).0 ≡ rationals.zero
+        by_place : ((i : ℕ) × (i < length ys) × ((term_at ys i).0 ≡ (term_at xs k).0)) ⊎ (coefficient n y (term_at xs k).0 ≡ rationals.zero)
+            → coefficient n y (term_at xs k).0 ≡ rationals.zero
         by_place (inr z) = z
         by_place (inl p) = elim (cases_lt p.0 k) [
-          | inl b ↦ absurd (let r : (term_at xs p.0).0 < (term_at xs k).0 = wx.rising p.0 k b l in let s : (term_at xs p.0).0 ≡ (term_at ys p.0).0 = (same p.0 b).0 in
+          | inl b ↦ absurd (let r : (term_at xs p.0).0 < (term_at xs k).0 = wx.rising p.0 k b l in let s : (term_at xs p.0).0 ≡ (term_at ys p.0).0 =
+              (same p.0 b).0 in
               let u : (term_at ys p.0).0 ≡ (term_at xs k).0 = p.2 in omega arith)
-          | inr g ↦ absurd (let r : (term_at xs k).0 < (term_at ys p.0).0 = beyond p.0 g p.1 in let u : (term_at ys p.0).0 ≡ (term_at xs k).0 = p.2 in omega arith)
+          | inr g ↦ absurd (let r : (term_at xs k).0 < (term_at ys p.0).0 = beyond p.0 g p.1 in let u : (term_at ys p.0).0 ≡ (term_at xs k).0 = p.2 in
+              omega arith)
         ]
 
     pub lone_positive : pos 0 ≤ℤ (term_at xs k).1 → IsNumberBefore n x y
@@ -198,7 +216,8 @@ module _ (n : ℕ) (x y : Number n) (d e : ℕ) (xs ys : List (ℕ × ℤ)) (wx 
       exponent = (term_at xs k).0;
       below = wx.below k l;
       before = before_t;
-      greater = subst (λ z. z <ℚ coefficient n x (term_at xs k).0) (sym none) (subst (λ z. rationals.zero <ℚ z) (sym (wx.value k l)) (positive_ratio (term_at xs k).1 d wx.positive s (wx.nonzero k l)));
+      greater = subst (λ z. z <ℚ coefficient n x (term_at xs k).0) (sym none)
+          (subst (λ z. rationals.zero <ℚ z) (sym (wx.value k l)) (positive_ratio (term_at xs k).1 d wx.positive s (wx.nonzero k l)));
     }
 
     pub lone_negative : (term_at xs k).1 ≤ℤ pos 0 → IsNumberBefore n y x
@@ -206,16 +225,20 @@ module _ (n : ℕ) (x y : Number n) (d e : ℕ) (xs ys : List (ℕ × ℤ)) (wx 
       exponent = (term_at xs k).0;
       below = wx.below k l;
       before = λ j m. sym (before_t j m);
-      greater = subst (λ z. coefficient n x (term_at xs k).0 <ℚ z) (sym none) (subst (λ z. z <ℚ rationals.zero) (sym (wx.value k l)) (negative_ratio (term_at xs k).1 d wx.positive s (wx.nonzero k l)));
+      greater = subst (λ z. coefficient n x (term_at xs k).0 <ℚ z) (sym none)
+          (subst (λ z. z <ℚ rationals.zero) (sym (wx.value k l)) (negative_ratio (term_at xs k).1 d wx.positive s (wx.nonzero k l)));
     }
 
-  pub both_terms : (l : k < length xs) (m : k < length ys) → (term_at xs k).0 ≡ (term_at ys k).0 → ((i : ℕ) → k ≤ i → i < length ys → (term_at ys k).0 ≤ (term_at ys i).0)
+  pub both_terms : (l : k < length xs) (m : k < length ys) → (term_at xs k).0 ≡ (term_at ys k).0
+      → ((i : ℕ) → k ≤ i → i < length ys → (term_at ys k).0 ≤ (term_at ys i).0)
       → ratio (term_at ys k).1 e <ℚ ratio (term_at xs k).1 d → IsNumberBefore n x y
   both_terms l m s from r = record {
     exponent = (term_at xs k).0;
     below = wx.below k l;
-    before = λ j q. coefficients_below (term_at xs k).0 (from_term l) (λ i g h. subst (λ a. a ≤ (term_at ys i).0) (sym s) (from i g h)) j q (let b : (term_at xs k).0 < n = wx.below k l in omega arith);
-    greater = subst (λ z. z <ℚ coefficient n x (term_at xs k).0) (sym (wy.value k m) ∙ ap (coefficient n y) (sym s)) (subst (λ z. ratio (term_at ys k).1 e <ℚ z) (sym (wx.value k l)) r);
+    before = λ j q. coefficients_below (term_at xs k).0 (from_term l) (λ i g h. subst (λ a. a ≤ (term_at ys i).0) (sym s) (from i g h)) j q
+        (let b : (term_at xs k).0 < n = wx.below k l in omega arith);
+    greater = subst (λ z. z <ℚ coefficient n x (term_at xs k).0) (sym (wy.value k m) ∙ ap (coefficient n y) (sym s))
+        (subst (λ z. ratio (term_at ys k).1 e <ℚ z) (sym (wx.value k l)) r);
   }
 
   pub no_terms : 0 < n → length xs ≤ k → length ys ≤ k → x ≡ y
@@ -229,24 +252,30 @@ module _ (n : ℕ) (x y : Number n) (d e : ℕ) (xs ys : List (ℕ × ℤ)) (wx 
   other : (i : ℕ) → i < k → IsSameTerm e d (term_at ys i) (term_at xs i)
   other i l = (sym (same i l).0, sym (same i l).1)
 
-  exponents_from : (l : k < length xs) (m : k < length ys) → (term_at xs k).0 < (term_at ys k).0 → (i : ℕ) → k ≤ i → i < length ys → (term_at xs k).0 < (term_at ys i).0
-  exponents_from l m b i g h = (let f : (term_at ys k).0 ≤ (term_at ys i).0 = from_term n y x e d ys xs wy wx k (omega arith) (omega arith) other m i g h in omega arith)
+  exponents_from : (l : k < length xs) (m : k < length ys) → (term_at xs k).0 < (term_at ys k).0 → (i : ℕ) → k ≤ i → i < length ys
+      → (term_at xs k).0 < (term_at ys i).0
+  exponents_from l m b i g h = (let f : (term_at ys k).0 ≤ (term_at ys i).0 =
+      from_term n y x e d ys xs wy wx k (omega arith) (omega arith) other m i g h in omega arith)
 
-  exponents_after : (l : k < length xs) (m : k < length ys) → (term_at ys k).0 < (term_at xs k).0 → (i : ℕ) → k ≤ i → i < length xs → (term_at ys k).0 < (term_at xs i).0
-  exponents_after l m b i g h = (let f : (term_at xs k).0 ≤ (term_at xs i).0 = from_term n x y d e xs ys wx wy k (omega arith) (omega arith) same l i g h in omega arith)
+  exponents_after : (l : k < length xs) (m : k < length ys) → (term_at ys k).0 < (term_at xs k).0 → (i : ℕ) → k ≤ i → i < length xs
+      → (term_at ys k).0 < (term_at xs i).0
+  exponents_after l m b i g h = (let f : (term_at xs k).0 ≤ (term_at xs i).0 =
+      from_term n x y d e xs ys wx wy k (omega arith) (omega arith) same l i g h in omega arith)
 
   -- a term before the other
   pub before_by_term : k < length xs → k < length ys → IsTermBefore d e (term_at xs k) (term_at ys k) → IsNumberBefore n x y
   before_by_term l m (inl p) = lone_positive n x y d e xs ys wx wy k (omega arith) (omega arith) same l (exponents_from l m p.0) p.1
   before_by_term l m (inr (inl p)) = lone_negative n y x e d ys xs wy wx k (omega arith) (omega arith) other m (exponents_after l m p.0) p.1
-  before_by_term l m (inr (inr p)) = both_terms n x y d e xs ys wx wy k (omega arith) (omega arith) same l m p.0 (from_term n y x e d ys xs wy wx k (omega arith) (omega arith) other m) p.1
+  before_by_term l m (inr (inr p)) = both_terms n x y d e xs ys wx wy k (omega arith) (omega arith) same l m p.0
+      (from_term n y x e d ys xs wy wx k (omega arith) (omega arith) other m) p.1
 
   -- the terms of the other number have ended
   pub before_by_last_term : k < length xs → length ys ≡ k → pos 0 ≤ℤ (term_at xs k).1 → IsNumberBefore n x y
   before_by_last_term l m s = lone_positive n x y d e xs ys wx wy k (omega arith) (omega arith) same l (λ i g h. absurd (omega arith)) s
 
   pub after_by_last_term : k < length xs → length ys ≡ k → (term_at xs k).1 <ℤ pos 0 → IsNumberBefore n y x
-  after_by_last_term l m s = lone_negative n x y d e xs ys wx wy k (omega arith) (omega arith) same l (λ i g h. absurd (omega arith)) (at_most (term_at xs k).1 s)
+  after_by_last_term l m s = lone_negative n x y d e xs ys wx wy k (omega arith) (omega arith) same l (λ i g h. absurd (omega arith))
+      (at_most (term_at xs k).1 s)
     where
       at_most : (z : ℤ) → z <ℤ pos 0 → z ≤ℤ pos 0
       at_most z s = omega (arith, ints)
@@ -260,18 +289,23 @@ module _ (n : ℕ) (x y : Number n) (d e : ℕ) (xs ys : List (ℕ × ℤ)) (wx 
   back i l = (sym (same i l).0, sym (same i l).1)
 
   pub ordered_by_terms : k < length xs → k < length ys → (o : Ordering) → ¬ (o ≡ Equal)
-      → MatchOrdering o (IsTermBefore d e (term_at xs k) (term_at ys k)) (IsSameTerm d e (term_at xs k) (term_at ys k)) (IsTermBefore e d (term_at ys k) (term_at xs k))
+      → MatchOrdering o (IsTermBefore d e (term_at xs k) (term_at ys k)) (IsSameTerm d e (term_at xs k) (term_at ys k))
+      (IsTermBefore e d (term_at ys k) (term_at xs k))
       → MatchOrdering o (IsNumberBefore n x y) (x ≡ y) (IsNumberBefore n y x)
   ordered_by_terms l m Less u h = before_by_term n x y d e xs ys wx wy k same l m h
   ordered_by_terms l m Equal u h = absurd (u refl)
   ordered_by_terms l m Greater u h = before_by_term n y x e d ys xs wy wx k back m l h
 
-  pub ordered_by_last_term : k < length xs → length ys ≡ k → (o : Ordering) → MatchOrdering o (pos 0 ≤ℤ (term_at xs k).1) ⊥ ((term_at xs k).1 <ℤ pos 0) → MatchOrdering o (IsNumberBefore n x y) (x ≡ y) (IsNumberBefore n y x)
+  pub ordered_by_last_term : k < length xs → length ys ≡ k → (o : Ordering)
+      → MatchOrdering o (pos 0 ≤ℤ (term_at xs k).1) ⊥ ((term_at xs k).1 <ℤ pos 0)
+      → MatchOrdering o (IsNumberBefore n x y) (x ≡ y) (IsNumberBefore n y x)
   ordered_by_last_term l m Less h = before_by_last_term n x y d e xs ys wx wy k same l m h
   ordered_by_last_term l m Equal h = absurd h
   ordered_by_last_term l m Greater h = after_by_last_term n x y d e xs ys wx wy k same l m h
 
-  pub ordered_by_other_term : k < length ys → length xs ≡ k → (o : Ordering) → MatchOrdering o (pos 0 ≤ℤ (term_at ys k).1) ⊥ ((term_at ys k).1 <ℤ pos 0) → MatchOrdering (ordering_reverse o) (IsNumberBefore n x y) (x ≡ y) (IsNumberBefore n y x)
+  pub ordered_by_other_term : k < length ys → length xs ≡ k → (o : Ordering)
+      → MatchOrdering o (pos 0 ≤ℤ (term_at ys k).1) ⊥ ((term_at ys k).1 <ℤ pos 0)
+      → MatchOrdering (ordering_reverse o) (IsNumberBefore n x y) (x ≡ y) (IsNumberBefore n y x)
   ordered_by_other_term l m Less h = before_by_last_term n y x e d ys xs wy wx k back l m h
   ordered_by_other_term l m Equal h = absurd h
   ordered_by_other_term l m Greater h = after_by_last_term n y x e d ys xs wy wx k back l m h

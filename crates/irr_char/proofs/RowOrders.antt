@@ -31,7 +31,8 @@ module _ (n : ℕ) where
         exponent = h.exponent;
         below = h.below;
         before = λ j m. h.before j m ∙ k.before j (omega arith);
-        greater = lt_trans (coefficient n z h.exponent) (coefficient n y h.exponent) (coefficient n x h.exponent) (subst (λ j. coefficient n z j <ℚ coefficient n y j) (sym e) k.greater) h.greater;
+        greater = lt_trans (coefficient n z h.exponent) (coefficient n y h.exponent) (coefficient n x h.exponent)
+            (subst (λ j. coefficient n z j <ℚ coefficient n y j) (sym e) k.greater) h.greater;
       }
       by_exponents (inr (inr l)) = record {
         exponent = k.exponent;
@@ -52,7 +53,8 @@ module _ (n : ℕ) where
       by_places (inr (inl e)) = record {
         place = p.place;
         before = λ i m. p.before i m ∙ q.before i (omega arith);
-        ahead = before_trans (f p.place) (g p.place) (h p.place) p.ahead (subst (λ i. IsNumberBefore n (g i) (h i)) (sym (to_nat_inj p.place q.place e)) q.ahead);
+        ahead = before_trans (f p.place) (g p.place) (h p.place) p.ahead
+            (subst (λ i. IsNumberBefore n (g i) (h i)) (sym (to_nat_inj p.place q.place e)) q.ahead);
       }
       by_places (inr (inr l)) = record {
         place = q.place;
@@ -83,7 +85,8 @@ module _ (n : ℕ) (positive : 0 < n) {h : ℕ} (start : Fin h) where
 
   pub row_cmp-ranks : (f g : Fin h → Number n) → MatchOrdering (row_cmp f g) (IsRowBefore n start f g) (f ≡ g) (IsRowBefore n start g f)
   unfolding row_cmp
-  row_cmp-ranks f g = answer-ranks ((i : Fin h) → f i ≡ g i) (IsRowBefore n start f g) (IsRowBefore n start g f) (f ≡ g) (λ e k i. e i k) (row_before_or_after n positive start f g)
+  row_cmp-ranks f g = answer-ranks ((i : Fin h) → f i ≡ g i) (IsRowBefore n start f g) (IsRowBefore n start g f) (f ≡ g) (λ e k i. e i k)
+      (row_before_or_after n positive start f g)
 
   pub row_irrefl : (f : Fin h → Number n) → IsRowBefore n start f f → ⊥
   row_irrefl f p = row_asymm n positive start f f p p

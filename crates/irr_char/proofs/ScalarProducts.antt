@@ -49,7 +49,8 @@ module _ {h : ℕ} (T : PhaseTable h) (n : ℕ) (positive : 0 < n) (v : T.order 
   }
 
   -- the inverse of a phase
-  phase-inverse : (i j : Fin h) → ((phases_over T n v).phase-invertible i j).inverse ≡ root_power n ((T.order - 1) * T.exponent i j % T.order * (n / T.order))
+  phase-inverse : (i j : Fin h) → ((phases_over T n v).phase-invertible i j).inverse ≡ root_power n
+      ((T.order - 1) * T.exponent i j % T.order * (n / T.order))
   phase-inverse i j =
       ap (lift T.order n T.order_positive v).map (sym (root_power-mod T.order ((T.order - 1) * T.exponent i j)))
       ∙ lift-root_power T.order n T.order_positive v ((T.order - 1) * T.exponent i j % T.order)
@@ -77,9 +78,11 @@ module _ {h : ℕ} (T : PhaseTable h) (n : ℕ) (positive : 0 < n) (v : T.order 
       )
 
 -- each term so far
-pub terms-within : {h : ℕ} (T : PhaseTable h) (n : ℕ) (f g : Fin h → Number n) → ((i : Fin h) → IsRootSum n 48 1 (f i)) → ((i : Fin h) → IsRootSum n 48 1 (g i))
+pub terms-within : {h : ℕ} (T : PhaseTable h) (n : ℕ) (f g : Fin h → Number n) → ((i : Fin h) → IsRootSum n 48 1 (f i))
+    → ((i : Fin h) → IsRootSum n 48 1 (g i))
     → (k : ℕ) → k < h → IsRootSum n 2304 1 (extended n (average_term T n f g) k)
-terms-within {h} T n f g a b k l = subst (IsRootSum n 2304 1) (sym (extended-is n (average_term T n f g) k l)) (term-small T n f g a b (from_nat h k l))
+terms-within {h} T n f g a b k l = subst (IsRootSum n 2304 1) (sym (extended-is n (average_term T n f g) k l))
+    (term-small T n f g a b (from_nat h k l))
 
 -- a number that is a sum of few powers and whole is small
 pub whole_small : (n h k : ℕ) (x : Number n) → 0 < n → n ≤ 12000 → h ≤ 48 → IsRootSum n (h * 2304) 1 x → x ≡ whole (numbers n) k → k < 2 ^ 31
@@ -98,7 +101,8 @@ few_terms n h k l q r =
     omega arith
 
 -- the characters at the order n of their numbers
-module _ {S : Type 0} {h : ℕ} (order : S → ℕ) (value : (m : ℕ) → S → Number m) (T : PhaseTable h) (a b : List S) (p : AreCharacters order value T a b) where
+module _ {S : Type 0} {h : ℕ} (order : S → ℕ) (value : (m : ℕ) → S → Number m) (T : PhaseTable h) (a b : List S)
+    (p : AreCharacters order value T a b) where
   pub own_order : (x : S) (n m : ℕ) → x ≡ get_or a 0 x → m ≡ order x → n ≡ m → n ≡ p.n
   own_order x n m is e f =
       let some : to_nat T.start < h = to_nat-lt T.start in
@@ -119,17 +123,21 @@ module _ {S : Type 0} {h : ℕ} (order : S → ℕ) (value : (m : ℕ) → S →
     right_at = subst (λ m. IsSmallRow order value m h b) (sym e) (small_row T p.n above p.divides order value p.right b p.right_few p.right_row)
 
     pub dimension_at : (m : ℕ) × HasDimension p.left.at p.right.at m
-        × (sum_below (numbers n) h (extended n (average_term T n (row_of n (map (value n) a)) (row_of n (map (value n) b)))) ≡ whole (numbers n) (h * m))
+        × (sum_below (numbers n) h (extended n (average_term T n (row_of n (map (value n) a)) (row_of n (map (value n) b)))) ≡ whole (numbers n)
+        (h * m))
     dimension_at =
-        let d = dimension-sum T p.n above p.divides p.left p.right (row_of p.n (map (value p.n) a)) (row_of p.n (map (value p.n) b)) p.left_row.numbers_at p.right_row.numbers_at in (
+        let d = dimension-sum T p.n above p.divides p.left p.right (row_of p.n (map (value p.n) a))
+        (row_of p.n (map (value p.n) b)) p.left_row.numbers_at p.right_row.numbers_at in (
           d.0,
           d.1,
-          subst (λ m. sum_below (numbers m) h (extended m (average_term T m (row_of m (map (value m) a)) (row_of m (map (value m) b)))) ≡ whole (numbers m) (h * d.0)) (sym e) d.2,
+          subst (λ m. sum_below (numbers m) h (extended m (average_term T m (row_of m (map (value m) a)) (row_of m (map (value m) b)))) ≡ whole
+              (numbers m) (h * d.0)) (sym e) d.2,
         )
 
     pub terms_at : (k : ℕ) → k < h → IsRootSum n 2304 1 (extended n (average_term T n (row_of n (map (value n) a)) (row_of n (map (value n) b))) k)
     terms_at k l = terms-within T n (row_of n (map (value n) a)) (row_of n (map (value n) b)) left_at.small right_at.small k l
 
 -- a term as the program makes it
-pub next-value : {h : ℕ} (n : ℕ) (f : Fin h → Number n) (k : ℕ) (l : k < h) (x : Number n) → ((i : Fin h) → to_nat i ≡ k → x ≡ f i) → x ≡ extended n f k
+pub next-value : {h : ℕ} (n : ℕ) (f : Fin h → Number n) (k : ℕ) (l : k < h) (x : Number n) → ((i : Fin h) → to_nat i ≡ k → x ≡ f i)
+    → x ≡ extended n f k
 next-value {h} n f k l x v = v (from_nat h k l) (to_nat-from_nat h k l) ∙ sym (extended-is n f k l)

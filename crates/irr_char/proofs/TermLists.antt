@@ -1,7 +1,8 @@
 -- The terms of a number: exponents rise, coefficients are not 0, and where no term stands the coefficient is 0.
 --   AreTermsOf n f ts        ts lists the coefficients f below n that are not 0
 --   terms_of                 the terms are such a list
-use Rattle.std.proofs.Common.{◌≡◌, refl, sym, ◌∙◌, ap, subst, ℕ, ℤ, pos, negsuc, zero, suc, ◌+◌, ◌<◌, ◌⊎◌, inl, inr, List, [], ◌∷◌, ◌++◌, length, get_or, append-nil, length-append, arith}
+use Rattle.std.proofs.Common.{◌≡◌, refl, sym, ◌∙◌, ap, subst, ℕ, ℤ, pos, negsuc, zero, suc, ◌+◌, ◌<◌, ◌⊎◌, inl, inr, List, [], ◌∷◌, ◌++◌, length}
+use Rattle.std.proofs.Common.{get_or, append-nil, length-append, arith}
 use Rattle.std.proofs.Math.Seq.{get_or-append_seam}
 use Rattle.std.proofs.lemmas.Bool.{cases_lt}
 use Rattle.std.proofs.lemmas.List.{get_or_append_left}
@@ -64,8 +65,14 @@ module _ (n : ℕ) (f : ℕ → ℤ) (ts : List (ℕ × ℤ)) (c : ℤ) (e : f n
         | inr s ↦ subst (λ (t : ℕ × ℤ). (term_at ts i).0 < t.0) (sym (last_at j s)) (h.below i b)
       ])
 
-  old_place : (j : ℕ) → ((i : ℕ) × (i < length ts) × ((term_at ts i).0 ≡ j)) ⊎ (f j ≡ pos 0) → ((i : ℕ) × (i < length more) × ((term_at more i).0 ≡ j)) ⊎ (f j ≡ pos 0)
-  old_place j (inl p) = inl (p.0, (let t : length more ≡ length ts + 1 = length-more in let q : p.0 < length ts = p.1 in omega arith), ap (λ (t : ℕ × ℤ). t.0) (old_at p.0 p.1) ∙ p.2)
+  old_place : (j : ℕ) → ((i : ℕ) × (i < length ts) × ((term_at ts i).0 ≡ j)) ⊎ (f j ≡ pos 0)
+      → ((i : ℕ) × (i < length more) × ((term_at more i).0 ≡ j)) ⊎ (f j ≡ pos 0)
+  old_place j (inl p) = inl (
+    p.0,
+    (let t : length more ≡ length ts + 1 = length-more in let q : p.0 < length ts = p.1 in omega arith),
+    ap
+        (λ (t : ℕ × ℤ). t.0) (old_at p.0 p.1) ∙ p.2,
+  )
   old_place j (inr z) = inr z
 
   one_more : AreTermsOf (suc n) f more
@@ -76,7 +83,12 @@ module _ (n : ℕ) (f : ℕ → ℤ) (ts : List (ℕ × ℤ)) (c : ℤ) (e : f n
     rising = rising_more;
     complete = λ j l. elim (before_or_last j n (omega arith)) [
       | inl b ↦ old_place j (h.complete j b)
-      | inr s ↦ inl (length ts, (let t : length more ≡ length ts + 1 = length-more in omega arith), ap (λ (t : ℕ × ℤ). t.0) (last_at (length ts) refl) ∙ sym s)
+      | inr s ↦ inl (
+        length ts,
+        (let t : length more ≡ length ts + 1 = length-more in omega arith),
+        ap (λ (t : ℕ × ℤ). t.0) (last_at (length ts) refl)
+            ∙ sym s,
+      )
     ];
   }
 

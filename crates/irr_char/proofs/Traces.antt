@@ -28,7 +28,8 @@ module _ {S : Type 0} {G : Ghosts S} (d : ℕ) (mats : List (Mat S G)) where
   pub record TracesSoFar (k : ℕ) (row : List S) : Type 0 where
     pub count : length row ≡ k
     pub orders : (n h : ℕ) → HasShape n h d mats → All (λ x. G.order_of x ≡ n) row
-    pub traces : (n h : ℕ) → HasShape n h d mats → (i : Fin h) → to_nat i < k → get_or (map (G.value n) row) (to_nat i) (numbers n).zero ≡ trace (matrix_at n d mats i)
+    pub traces : (n h : ℕ) → HasShape n h d mats → (i : Fin h) → to_nat i < k
+        → get_or (map (G.value n) row) (to_nat i) (numbers n).zero ≡ trace (matrix_at n d mats i)
 
   pub traces-none : (row : List S) → row ≡ [] → TracesSoFar 0 row
   traces-none row e = record {
@@ -52,7 +53,8 @@ module _ {S : Type 0} {G : Ghosts S} (d : ℕ) (mats : List (Mat S G)) where
       at : (n h : ℕ) → HasShape n h d mats → (i : Fin h) → (to_nat i < k) ⊎ (to_nat i ≡ k)
           → get_or (map (G.value n) row ++ G.value n x ∷ []) (to_nat i) (numbers n).zero ≡ trace (matrix_at n d mats i)
       at n h s i (inl l) =
-          get_or_append_left (map (G.value n) row) (G.value n x ∷ []) (numbers n).zero (to_nat i) (subst (λ m. to_nat i < m) (sym (length-map row (G.value n) ∙ f.count)) l)
+          get_or_append_left (map (G.value n) row) (G.value n x ∷ []) (numbers n).zero (to_nat i)
+          (subst (λ m. to_nat i < m) (sym (length-map row (G.value n) ∙ f.count)) l)
           ∙ f.traces n h s i l
       at n h s i (inr q) =
           ap (λ m. get_or (map (G.value n) row ++ G.value n x ∷ []) m (numbers n).zero) (q ∙ sym f.count ∙ sym (length-map row (G.value n)))

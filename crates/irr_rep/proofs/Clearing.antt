@@ -7,9 +7,8 @@
 use Rattle.std.proofs.Common.{◌≡◌, sym, ◌∙◌, ap, subst, ℕ, ℤ, pos, ◌*◌, ◌/◌, ◌<◌, ◌≤◌, ◌^◌, List, [], ◌∷◌, length, get_or, arith}
 use native.Mathlib.Nat as Nat
 use Rattle.std.specs.Int.{◌∣◌}
-use Rattle.irr_algebra.specs.Fin.{Fin, to_nat}
-use Rattle.irr_algebra.specs.Matrix.{Matrix}
-use Rattle.irr_algebra.specs.Ring.{Ring, whole}
+use Rattle.irr_algebra.specs.Fin.{Fin}
+use Rattle.irr_algebra.specs.Ring.{whole}
 use Rattle.irr_algebra.proofs.Indices.{from_nat, to_nat-from_nat}
 use Rattle.irr_algebra.proofs.Rings.{one-mul}
 use Rattle.irr_algebra.proofs.Whole.{whole-one}

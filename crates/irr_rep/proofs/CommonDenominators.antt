@@ -6,10 +6,10 @@
 --   entry_within                          an entry of a matrix is within its sizes
 --   checkable_multiples                   a family times a divisor of its denominator can be checked
 --   multiplies-to, multiplies-from        its products are right where those of the family are
-use Rattle.std.proofs.Common.{◌≡◌, sym, ◌∙◌, ap, ap₂, subst, refl, ℕ, ◌+◌, ◌*◌, ◌/◌, ◌<◌, ◌≤◌, ◌^◌, List, length, get_or, arith}
+use Rattle.std.proofs.Common.{◌≡◌, sym, ◌∙◌, ap, ap₂, subst, ℕ, ◌*◌, ◌/◌, ◌<◌, ◌≤◌, ◌^◌, List, length, arith}
 use native.Mathlib.Nat as Nat
 use Rattle.std.specs.Int.{◌∣◌}
-use Rattle.irr_algebra.specs.Fin.{Fin, to_nat}
+use Rattle.irr_algebra.specs.Fin.{Fin}
 use Rattle.irr_algebra.specs.Matrix.{Matrix, ◌·◌, scale}
 use Rattle.irr_algebra.specs.Ring.{Ring, whole}
 use Rattle.irr_algebra.proofs.Indices.{from_nat, to_nat-from_nat}

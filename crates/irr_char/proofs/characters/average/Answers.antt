@@ -29,7 +29,8 @@ term-requires-clause-divides g c =
     let T = phase_table c.args.t.now in
     let p = c.requires in
     divides_at g.S.Scalar.order_of g.S.Scalar.value T c.args.a.now c.args.b.now p n
-    (own_order g.S.Scalar.order_of g.S.Scalar.value T c.args.a.now c.args.b.now p c.index-a-0.result n c.order.result c.index-a-0.is c.order.ensures c.in_ok-order.ensures) c.in_ok-order.order.positive
+    (own_order g.S.Scalar.order_of g.S.Scalar.value T c.args.a.now c.args.b.now p c.index-a-0.result n c.order.result c.index-a-0.is c.order.ensures
+    c.in_ok-order.ensures) c.in_ok-order.order.positive
 
 pub term-requires-clause-left : goal.term-requires-clause-left
 term-requires-clause-left g c =
@@ -37,7 +38,8 @@ term-requires-clause-left g c =
     let T = phase_table c.args.t.now in
     let p = c.requires in
     left_at g.S.Scalar.order_of g.S.Scalar.value T c.args.a.now c.args.b.now p n
-    (own_order g.S.Scalar.order_of g.S.Scalar.value T c.args.a.now c.args.b.now p c.index-a-0.result n c.order.result c.index-a-0.is c.order.ensures c.in_ok-order.ensures) c.in_ok-order.order.positive
+    (own_order g.S.Scalar.order_of g.S.Scalar.value T c.args.a.now c.args.b.now p c.index-a-0.result n c.order.result c.index-a-0.is c.order.ensures
+    c.in_ok-order.ensures) c.in_ok-order.order.positive
 
 pub term-requires-clause-right : goal.term-requires-clause-right
 term-requires-clause-right g c =
@@ -45,7 +47,8 @@ term-requires-clause-right g c =
     let T = phase_table c.args.t.now in
     let p = c.requires in
     right_at g.S.Scalar.order_of g.S.Scalar.value T c.args.a.now c.args.b.now p n
-    (own_order g.S.Scalar.order_of g.S.Scalar.value T c.args.a.now c.args.b.now p c.index-a-0.result n c.order.result c.index-a-0.is c.order.ensures c.in_ok-order.ensures) c.in_ok-order.order.positive
+    (own_order g.S.Scalar.order_of g.S.Scalar.value T c.args.a.now c.args.b.now p c.index-a-0.result n c.order.result c.index-a-0.is c.order.ensures
+    c.in_ok-order.ensures) c.in_ok-order.order.positive
 
 pub add-requires-clause-denominators : goal.add-requires-clause-denominators
 add-requires-clause-denominators g c =
@@ -53,12 +56,14 @@ add-requires-clause-denominators g c =
     let value = g.S.Scalar.value in
     let n = c.in_ok-order.order.n in
     let T = phase_table c.args.t.now in
-    let e = own_order order value T c.args.a.now c.args.b.now c.requires c.index-a-0.result n c.order.result c.index-a-0.is c.order.ensures c.in_ok-order.ensures in
+    let e = own_order order value T c.args.a.now c.args.b.now c.requires c.index-a-0.result n c.order.result c.index-a-0.is c.order.ensures
+    c.in_ok-order.ensures in
     let t = average_term T n (row_of n (map (value n) c.args.a.now)) (row_of n (map (value n) c.args.b.now)) in
     let k = c.loop-i.i in
     let l : k < place_count c.args.t.now = search rules in
     let terms = terms_at order value T c.args.a.now c.args.b.now c.requires n e c.in_ok-order.order.positive in
-    sum_denominators value (order c.loop-i.sum) n (g.met.S.Scalar.admitted_positive (order c.loop-i.sum) (g.met.S.Scalar.order_admitted c.loop-i.sum)) c.loop-i.invariant.has_order
+    sum_denominators value (order c.loop-i.sum) n (g.met.S.Scalar.admitted_positive (order c.loop-i.sum)
+    (g.met.S.Scalar.order_admitted c.loop-i.sum)) c.loop-i.invariant.has_order
     (k * 2304) 1 2304 1 c.loop-i.sum c.in_ok-next.next
     (partial-within order value n (extended n t) k 2304 1 c.loop-i.sum c.loop-i.invariant (omega arith) (λ i q. terms i (Nat.lt_trans q l)))
     (subst (IsRootSum n 2304 1) (sym (next-value n t k l (value n c.in_ok-next.next) c.in_ok-next.ensures.value)) (terms k l))
@@ -70,12 +75,14 @@ add-requires-clause-sizes g c =
     let value = g.S.Scalar.value in
     let n = c.in_ok-order.order.n in
     let T = phase_table c.args.t.now in
-    let e = own_order order value T c.args.a.now c.args.b.now c.requires c.index-a-0.result n c.order.result c.index-a-0.is c.order.ensures c.in_ok-order.ensures in
+    let e = own_order order value T c.args.a.now c.args.b.now c.requires c.index-a-0.result n c.order.result c.index-a-0.is c.order.ensures
+    c.in_ok-order.ensures in
     let t = average_term T n (row_of n (map (value n) c.args.a.now)) (row_of n (map (value n) c.args.b.now)) in
     let k = c.loop-i.i in
     let l : k < place_count c.args.t.now = search rules in
     let terms = terms_at order value T c.args.a.now c.args.b.now c.requires n e c.in_ok-order.order.positive in
-    sum_sizes value (order c.loop-i.sum) n (g.met.S.Scalar.admitted_positive (order c.loop-i.sum) (g.met.S.Scalar.order_admitted c.loop-i.sum)) c.loop-i.invariant.has_order
+    sum_sizes value (order c.loop-i.sum) n (g.met.S.Scalar.admitted_positive (order c.loop-i.sum)
+    (g.met.S.Scalar.order_admitted c.loop-i.sum)) c.loop-i.invariant.has_order
     (k * 2304) 1 2304 1 c.loop-i.sum c.in_ok-next.next
     (partial-within order value n (extended n t) k 2304 1 c.loop-i.sum c.loop-i.invariant (omega arith) (λ i q. terms i (Nat.lt_trans q l)))
     (subst (IsRootSum n 2304 1) (sym (next-value n t k l (value n c.in_ok-next.next) c.in_ok-next.ensures.value)) (terms k l))
@@ -90,7 +97,8 @@ loop-i-preserved g c =
     let l : k < place_count c.args.t.now = search rules in
     partial-add g.S.Scalar.order_of value n (extended n t) k c.loop-i.sum c.in_ok-sum-2.sum (value n c.in_ok-next.next) c.loop-i.invariant
     (c.in_ok-sum-2.ensures.order ∙ c.loop-i.invariant.has_order)
-    (subst (λ u. value u c.in_ok-sum-2.sum ≡ (numbers u).add (value u c.loop-i.sum) (value u c.in_ok-next.next)) c.loop-i.invariant.has_order c.in_ok-sum-2.ensures.value)
+    (subst (λ u. value u c.in_ok-sum-2.sum ≡ (numbers u).add (value u c.loop-i.sum)
+    (value u c.in_ok-next.next)) c.loop-i.invariant.has_order c.in_ok-sum-2.ensures.value)
     (next-value n t k l (value n c.in_ok-next.next) c.in_ok-next.ensures.value)
 
 pub whole_number-requires : goal.whole_number-requires
@@ -100,18 +108,21 @@ whole_number-requires g c =
     let n = c.in_ok-order.order.n in
     let h = place_count c.args.t.now in
     let T = phase_table c.args.t.now in
-    let e = own_order order value T c.args.a.now c.args.b.now c.requires c.index-a-0.result n c.order.result c.index-a-0.is c.order.ensures c.in_ok-order.ensures in
+    let e = own_order order value T c.args.a.now c.args.b.now c.requires c.index-a-0.result n c.order.result c.index-a-0.is c.order.ensures
+    c.in_ok-order.ensures in
     let f = extended n (average_term T n (row_of n (map (value n) c.args.a.now)) (row_of n (map (value n) c.args.b.now))) in
     let d = dimension_at order value T c.args.a.now c.args.b.now c.requires n e c.in_ok-order.order.positive in
     let terms = terms_at order value T c.args.a.now c.args.b.now c.requires n e c.in_ok-order.order.positive in
     let done : c.loop-i.i ≡ h = search rules in
-    let all : value n c.loop-i.sum ≡ sum_below (numbers n) h f = subst (λ u. value n c.loop-i.sum ≡ sum_below (numbers n) u f) done c.loop-i.invariant.is_sum in
+    let all : value n c.loop-i.sum ≡ sum_below (numbers n) h f =
+    subst (λ u. value n c.loop-i.sum ≡ sum_below (numbers n) u f) done c.loop-i.invariant.is_sum in
     let within = subst (λ u. IsRootSum n (u * 2304) 1 (value n c.loop-i.sum)) done
     (partial-within order value n f c.loop-i.i 2304 1 c.loop-i.sum c.loop-i.invariant (omega arith) (λ i q. terms i (subst (λ u. i < u) done q))) in
     record {
       whole = (
         h * d.0,
-        whole_small n h (h * d.0) (value n c.loop-i.sum) c.in_ok-order.order.positive c.in_ok-order.order.limited c.args.t.now.places_within within (all ∙ d.2),
+        whole_small n h (h * d.0) (value n c.loop-i.sum) c.in_ok-order.order.positive c.in_ok-order.order.limited c.args.t.now.places_within within
+            (all ∙ d.2),
         subst (λ u. value u c.loop-i.sum ≡ whole (numbers u) (h * d.0)) (sym c.loop-i.invariant.has_order) (all ∙ d.2),
       );
     }
@@ -123,11 +134,13 @@ returns g c p =
     let n = c.in_ok-order.order.n in
     let h = place_count c.args.t.now in
     let T = phase_table c.args.t.now in
-    let e = own_order order value T c.args.a.now c.args.b.now p c.index-a-0.result n c.order.result c.index-a-0.is c.order.ensures c.in_ok-order.ensures in
+    let e = own_order order value T c.args.a.now c.args.b.now p c.index-a-0.result n c.order.result c.index-a-0.is c.order.ensures
+    c.in_ok-order.ensures in
     let f = extended n (average_term T n (row_of n (map (value n) c.args.a.now)) (row_of n (map (value n) c.args.b.now))) in
     let d = dimension_at order value T c.args.a.now c.args.b.now p n e c.in_ok-order.order.positive in
     let done : c.loop-i.i ≡ h = search rules in
-    let all : value n c.loop-i.sum ≡ sum_below (numbers n) h f = subst (λ u. value n c.loop-i.sum ≡ sum_below (numbers n) u f) done c.loop-i.invariant.is_sum in
+    let all : value n c.loop-i.sum ≡ sum_below (numbers n) h f =
+    subst (λ u. value n c.loop-i.sum ≡ sum_below (numbers n) u f) done c.loop-i.invariant.is_sum in
     let product : c.in_ok-whole_number.field-0 ≡ h * d.0 = c.in_ok-whole_number.ensures (h * d.0)
     (subst (λ u. value u c.loop-i.sum ≡ whole (numbers u) (h * d.0)) (sym c.loop-i.invariant.has_order) (all ∙ d.2)) in
     subst (HasDimension p.left.at p.right.at)

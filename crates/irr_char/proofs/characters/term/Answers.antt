@@ -19,10 +19,12 @@ mul-requires-clause-denominators g c =
     let value = g.S.Scalar.value in
     let n = c.args.order.now.n in
     let x = c.in_ok-phase.phase in
-    sum_denominators value (g.S.Scalar.order_of x) n (g.met.S.Scalar.admitted_positive (g.S.Scalar.order_of x) (g.met.S.Scalar.order_admitted x)) c.in_ok-phase.ensures.order
+    sum_denominators value (g.S.Scalar.order_of x) n (g.met.S.Scalar.admitted_positive (g.S.Scalar.order_of x)
+    (g.met.S.Scalar.order_admitted x)) c.in_ok-phase.ensures.order
     1 1 48 1 x c.index-a-j.result
     (subst (IsRootSum n 1 1) (sym c.in_ok-phase.ensures.value) (IsRootSum-root n c.inverse_exponent.result))
-    (item-small g.S.Scalar.order_of value n (place_count c.args.t.now) c.args.a.now c.requires.left c.inverse-j.result c.inverse-j.ensures.within c.index-a-j.result c.index-a-j.is)
+    (item-small g.S.Scalar.order_of value n
+    (place_count c.args.t.now) c.args.a.now c.requires.left c.inverse-j.result c.inverse-j.ensures.within c.index-a-j.result c.index-a-j.is)
     (2 ^ 60) (omega arith)
 
 pub mul-requires-clause-sizes : goal.mul-requires-clause-sizes
@@ -30,10 +32,12 @@ mul-requires-clause-sizes g c =
     let value = g.S.Scalar.value in
     let n = c.args.order.now.n in
     let x = c.in_ok-phase.phase in
-    product_sizes value (g.S.Scalar.order_of x) n (g.met.S.Scalar.admitted_positive (g.S.Scalar.order_of x) (g.met.S.Scalar.order_admitted x)) c.in_ok-phase.ensures.order
+    product_sizes value (g.S.Scalar.order_of x) n (g.met.S.Scalar.admitted_positive (g.S.Scalar.order_of x)
+    (g.met.S.Scalar.order_admitted x)) c.in_ok-phase.ensures.order
     1 1 48 1 x c.index-a-j.result
     (subst (IsRootSum n 1 1) (sym c.in_ok-phase.ensures.value) (IsRootSum-root n c.inverse_exponent.result))
-    (item-small g.S.Scalar.order_of value n (place_count c.args.t.now) c.args.a.now c.requires.left c.inverse-j.result c.inverse-j.ensures.within c.index-a-j.result c.index-a-j.is)
+    (item-small g.S.Scalar.order_of value n
+    (place_count c.args.t.now) c.args.a.now c.requires.left c.inverse-j.result c.inverse-j.ensures.within c.index-a-j.result c.index-a-j.is)
     (2 ^ 100) (few_powers n 1 48 c.args.order.now.limited (omega arith) (omega arith))
 
 -- the phase times the number of the first row
@@ -43,12 +47,16 @@ mul-requires-2-clause-denominators g c =
     let n = c.args.order.now.n in
     let x = c.in_ok-phase.phase in
     let y = c.index-b-i.result in
-    let a = item-small g.S.Scalar.order_of value n (place_count c.args.t.now) c.args.a.now c.requires.left c.inverse-j.result c.inverse-j.ensures.within c.index-a-j.result c.index-a-j.is in
-    let o = item-order g.S.Scalar.order_of value n (place_count c.args.t.now) c.args.b.now c.requires.right c.args.i c.requires.place y c.index-b-i.is in
+    let a = item-small g.S.Scalar.order_of value n
+    (place_count c.args.t.now) c.args.a.now c.requires.left c.inverse-j.result c.inverse-j.ensures.within c.index-a-j.result c.index-a-j.is in
+    let o = item-order g.S.Scalar.order_of value n
+    (place_count c.args.t.now) c.args.b.now c.requires.right c.args.i c.requires.place y c.index-b-i.is in
     sum_denominators value (g.S.Scalar.order_of y) n (g.met.S.Scalar.admitted_positive (g.S.Scalar.order_of y) (g.met.S.Scalar.order_admitted y)) o
     48 1 (1 * 48) (1 * 1) y c.in_ok-inverse.inverse
     (item-small g.S.Scalar.order_of value n (place_count c.args.t.now) c.args.b.now c.requires.right c.args.i c.requires.place y c.index-b-i.is)
-    (subst (IsRootSum n (1 * 48) (1 * 1)) (sym (subst (λ u. value u c.in_ok-inverse.inverse ≡ (numbers u).mul (value u x) (value u c.index-a-j.result)) c.in_ok-phase.ensures.order c.in_ok-inverse.ensures.value))
+    (subst (IsRootSum n (1 * 48) (1 * 1)) (sym
+    (subst (λ u. value u c.in_ok-inverse.inverse ≡ (numbers u).mul (value u x)
+    (value u c.index-a-j.result)) c.in_ok-phase.ensures.order c.in_ok-inverse.ensures.value))
     (IsRootSum-mul n (subst (IsRootSum n 1 1) (sym c.in_ok-phase.ensures.value) (IsRootSum-root n c.inverse_exponent.result)) a))
     (2 ^ 60) (omega arith)
 
@@ -58,12 +66,16 @@ mul-requires-2-clause-sizes g c =
     let n = c.args.order.now.n in
     let x = c.in_ok-phase.phase in
     let y = c.index-b-i.result in
-    let a = item-small g.S.Scalar.order_of value n (place_count c.args.t.now) c.args.a.now c.requires.left c.inverse-j.result c.inverse-j.ensures.within c.index-a-j.result c.index-a-j.is in
-    let o = item-order g.S.Scalar.order_of value n (place_count c.args.t.now) c.args.b.now c.requires.right c.args.i c.requires.place y c.index-b-i.is in
+    let a = item-small g.S.Scalar.order_of value n
+    (place_count c.args.t.now) c.args.a.now c.requires.left c.inverse-j.result c.inverse-j.ensures.within c.index-a-j.result c.index-a-j.is in
+    let o = item-order g.S.Scalar.order_of value n
+    (place_count c.args.t.now) c.args.b.now c.requires.right c.args.i c.requires.place y c.index-b-i.is in
     product_sizes value (g.S.Scalar.order_of y) n (g.met.S.Scalar.admitted_positive (g.S.Scalar.order_of y) (g.met.S.Scalar.order_admitted y)) o
     48 1 (1 * 48) (1 * 1) y c.in_ok-inverse.inverse
     (item-small g.S.Scalar.order_of value n (place_count c.args.t.now) c.args.b.now c.requires.right c.args.i c.requires.place y c.index-b-i.is)
-    (subst (IsRootSum n (1 * 48) (1 * 1)) (sym (subst (λ u. value u c.in_ok-inverse.inverse ≡ (numbers u).mul (value u x) (value u c.index-a-j.result)) c.in_ok-phase.ensures.order c.in_ok-inverse.ensures.value))
+    (subst (IsRootSum n (1 * 48) (1 * 1)) (sym
+    (subst (λ u. value u c.in_ok-inverse.inverse ≡ (numbers u).mul (value u x)
+    (value u c.index-a-j.result)) c.in_ok-phase.ensures.order c.in_ok-inverse.ensures.value))
     (IsRootSum-mul n (subst (IsRootSum n 1 1) (sym c.in_ok-phase.ensures.value) (IsRootSum-root n c.inverse_exponent.result)) a))
     (2 ^ 100) (few_powers n 48 (1 * 48) c.args.order.now.limited (omega arith) (omega arith))
 
@@ -78,11 +90,15 @@ returns-clause-value g c =
     let o = item-order g.S.Scalar.order_of value n h c.args.b.now c.requires.right c.args.i c.requires.place y c.index-b-i.is in
     IfOk-weaker c.mul-2.result _ _ (λ z e p is.
     let back = sym (c.inverse-j.ensures.inverse p is) in
-    term-value (phase_table c.args.t.now) n (row_of n (map (value n) c.args.a.now)) (row_of n (map (value n) c.args.b.now)) p (value n x) (value n c.index-a-j.result) (value n z) (value n y)
+    term-value (phase_table c.args.t.now) n (row_of n (map (value n) c.args.a.now)) (row_of n (map (value n) c.args.b.now)) p (value n x)
+    (value n c.index-a-j.result) (value n z) (value n y)
     (c.in_ok-phase.ensures.value ∙ ap (root_power n) (c.inverse_exponent.ensures.exponent p ((phase_table c.args.t.now).opposite p) is back
     ∙ ap (λ m. (T.order - 1) * T.exponent p (T.opposite p) % T.order * (m / T.order)) c.n.ensures.value))
-    (item-value g.S.Scalar.order_of value n h c.args.a.now c.requires.left c.inverse-j.result c.inverse-j.ensures.within c.index-a-j.result c.index-a-j.is ((phase_table c.args.t.now).opposite p) back)
+    (item-value g.S.Scalar.order_of value n h c.args.a.now c.requires.left c.inverse-j.result c.inverse-j.ensures.within c.index-a-j.result
+    c.index-a-j.is ((phase_table c.args.t.now).opposite p) back)
     (item-value g.S.Scalar.order_of value n h c.args.b.now c.requires.right c.args.i c.requires.place y c.index-b-i.is p is)
     (subst (λ u. value u z ≡ (numbers u).mul (value u y) (value u c.in_ok-inverse.inverse)) o e
-    ∙ ap ((numbers n).mul (value n y)) (subst (λ u. value u c.in_ok-inverse.inverse ≡ (numbers u).mul (value u x) (value u c.index-a-j.result)) c.in_ok-phase.ensures.order c.in_ok-inverse.ensures.value)))
+    ∙ ap ((numbers n).mul (value n y)) (subst
+    (λ u. value u c.in_ok-inverse.inverse ≡ (numbers u).mul (value u x)
+    (value u c.index-a-j.result)) c.in_ok-phase.ensures.order c.in_ok-inverse.ensures.value)))
     c.mul-2.ensures.value

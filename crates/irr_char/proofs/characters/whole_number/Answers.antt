@@ -22,9 +22,11 @@ overflow_cast-result g c =
     let n = g.S.Scalar.order_of x in
     let k = c.requires.whole.0 in
     let first = first_term k c.in_ok-form.form.terms.items c.in-Some.term.now
-    (c.in_ok-form.ensures.terms ∙ terms_of_whole n (g.met.S.Scalar.admitted_positive n (g.met.S.Scalar.order_admitted x)) k (g.S.Scalar.value n x) c.requires.whole.2)
+    (c.in_ok-form.ensures.terms ∙ terms_of_whole n (g.met.S.Scalar.admitted_positive n (g.met.S.Scalar.order_admitted x)) k
+    (g.S.Scalar.value n x) c.requires.whole.2)
     (ap (λ ts. slice_get ts 0) (sym c.deref.ensures.value) ∙ sym c.in-Some.ensures.value) in
-    subst (λ z. T (non_neg z) × Fits w32 (unsigned_abs z)) (sym (read_back c.in-Some.term.now.1 k first c.requires.whole.1)) (fits_pos k c.requires.whole.1)
+    subst (λ z. T (non_neg z) × Fits w32 (unsigned_abs z)) (sym (read_back c.in-Some.term.now.1 k first c.requires.whole.1))
+    (fits_pos k c.requires.whole.1)
 
 pub returns-in-Some : goal.returns-in-Some
 returns-in-Some g c k e =
@@ -33,8 +35,10 @@ returns-in-Some g c k e =
     let positive : 0 < n = g.met.S.Scalar.admitted_positive n (g.met.S.Scalar.order_admitted x) in
     let j = c.requires.whole.0 in
     let read = ap (λ ts. slice_get ts 0) (sym c.deref.ensures.value) ∙ sym c.in-Some.ensures.value in
-    let first = first_term j c.in_ok-form.form.terms.items c.in-Some.term.now (c.in_ok-form.ensures.terms ∙ terms_of_whole n positive j (g.S.Scalar.value n x) c.requires.whole.2) read in
-    let same = first_term k c.in_ok-form.form.terms.items c.in-Some.term.now (c.in_ok-form.ensures.terms ∙ terms_of_whole n positive k (g.S.Scalar.value n x) e) read in
+    let first = first_term j c.in_ok-form.form.terms.items c.in-Some.term.now
+    (c.in_ok-form.ensures.terms ∙ terms_of_whole n positive j (g.S.Scalar.value n x) c.requires.whole.2) read in
+    let same = first_term k c.in_ok-form.form.terms.items c.in-Some.term.now
+    (c.in_ok-form.ensures.terms ∙ terms_of_whole n positive k (g.S.Scalar.value n x) e) read in
     ap unsigned_abs (read_back c.in-Some.term.now.1 j first c.requires.whole.1 ∙ sym first ∙ same)
 
 pub returns : goal.returns

@@ -9,7 +9,8 @@ use Rattle.irr_char.proofs.Comparisons.{slice_written, ordered_by_terms, ordered
 use Rattle.irr_char.proofs.numbers.compare_numbers.Goals as goal
 
 -- the sign of a coefficient that was read is the sign of the coefficient
-sign_read : (o : Ordering) (z : ℤ) → FitsSigned w128 z → MatchOrdering o (pos 0 ≤ℤ to_z w128 (of_z w128 z)) ⊥ (to_z w128 (of_z w128 z) <ℤ pos 0) → MatchOrdering o (pos 0 ≤ℤ z) ⊥ (z <ℤ pos 0)
+sign_read : (o : Ordering) (z : ℤ) → FitsSigned w128 z → MatchOrdering o (pos 0 ≤ℤ to_z w128 (of_z w128 z)) ⊥ (to_z w128 (of_z w128 z) <ℤ pos 0)
+    → MatchOrdering o (pos 0 ≤ℤ z) ⊥ (z <ℤ pos 0)
 sign_read o z f h = subst (λ w. MatchOrdering o (pos 0 ≤ℤ w) ⊥ (w <ℤ pos 0)) (to_z-of_z w128 z f) h
 
 pub returns-then-ne : goal.returns-then-ne
@@ -42,7 +43,8 @@ returns-then-common-ys c n a b p f g =
     (slice_written n a c.args.x.now.den c.args.x.now.terms.items c.as_slice-xs.result.now c.args.x.now.positive c.as_slice-xs.ensures.value f)
     (slice_written n b c.args.y.now.den c.args.y.now.terms.items c.as_slice-ys.result.now c.args.y.now.positive c.as_slice-ys.ensures.value g)
     c.min-common.result (λ i l. c.loop-k.invariant i (omega arith)) (omega arith) (omega arith) c.against_none-then-common-ys.result
-    (sign_read c.against_none-then-common-ys.result (term_at c.as_slice-ys.result.now c.min-common.result).1 (search rules) c.against_none-then-common-ys.ensures))
+    (sign_read c.against_none-then-common-ys.result (term_at c.as_slice-ys.result.now c.min-common.result).1
+    (search rules) c.against_none-then-common-ys.ensures))
 
 pub returns : goal.returns
 returns c n a b p f g =

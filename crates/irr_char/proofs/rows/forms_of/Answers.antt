@@ -6,7 +6,8 @@ use Rattle.irr_char.proofs.rows.forms_of.Goals as goal
 pub loop-x-preserved : goal.loop-x-preserved
 loop-x-preserved g c =
     let l : c.loop-x.x-index < length c.args.row.now = search rules in
-    forms-more g.S.Scalar.order_of g.S.Scalar.value c.args.row.now c.loop-x.forms.items c.push.new.self.items c.loop-x.x-index c.x-item.result c.in_ok-form_of.field-0
+    forms-more g.S.Scalar.order_of g.S.Scalar.value c.args.row.now c.loop-x.forms.items c.push.new.self.items c.loop-x.x-index c.x-item.result
+    c.in_ok-form_of.field-0
     c.loop-x.invariant l c.x-item.is c.in_ok-push.ensures.items c.in_ok-form_of.ensures
 
 pub returns : goal.returns

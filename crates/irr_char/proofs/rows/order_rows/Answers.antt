@@ -15,8 +15,10 @@ pub returns-clause-ordered : goal.returns-clause-ordered
 returns-clause-ordered g c =
     let same : length c.as_slice.result.now ≡ length c.args.rows.now = ap length c.as_slice.ensures.value ∙ c.in_ok-forms.ensures.len in
     if_ok_both _ _ _ c.sorted_places.result c.sorted_places.ensures.permutation c.sorted_places.ensures.sorted (λ places p q n h start s rows.
-    in_order n rows.positive start (row_at n (map (map (g.S.Scalar.value n)) (map (λ v. v.items) c.args.rows.now))) (length c.as_slice.result.now) places.items p
+    in_order n rows.positive start (row_at n (map (map (g.S.Scalar.value n)) (map (λ v. v.items) c.args.rows.now)))
+    (length c.as_slice.result.now) places.items p
     (λ a b l m. rows.different a b l (subst (λ k. b < k) (same ∙ sym (length-map c.args.rows.now (λ v. v.items))) m))
     (q n h (row_at n (map (map (g.S.Scalar.value n)) (map (λ v. v.items) c.args.rows.now))) start s rows.positive
-    (subst (λ (fs : List (Vec Form Global)). AreRowsOf {h = h} n (row_at n (map (map (g.S.Scalar.value n)) (map (λ v. v.items) c.args.rows.now))) (map (λ v. v.items) fs)) (sym c.as_slice.ensures.value)
+    (subst (λ (fs : List (Vec Form Global)). AreRowsOf {h = h} n (row_at n (map (map (g.S.Scalar.value n)) (map (λ v. v.items) c.args.rows.now)))
+    (map (λ v. v.items) fs)) (sym c.as_slice.ensures.value)
     (c.in_ok-forms.ensures.forms n h rows.long rows.orders))))

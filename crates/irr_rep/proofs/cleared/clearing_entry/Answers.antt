@@ -1,8 +1,7 @@
 -- What is left of the denominator.
-use Rattle.std.proofs.Common.{◌≡◌, sym, ◌∙◌, ap, subst, ℕ, ℤ, pos, ◌*◌, ◌<◌, ◌≤◌, ◌^◌, Fits, w32, w64, arith, rules}
+use Rattle.std.proofs.Common.{sym, ◌∙◌, ap, subst, ◌*◌, ◌≤◌, ◌^◌, w64, arith, rules}
 use Rattle.std.proofs.lemmas.Int.{to_z-of_z}
 use native.Mathlib.Nat as Nat
-use Rattle.std.specs.Int.{◌∣◌}
 use Rattle.std.specs.Int.RustNames.{unsigned_abs}
 use Rattle.irr_canonical.specs.Coefficient.{denominator, size}
 use Rattle.irr_rep.proofs.Clearing.{clearing_divides, small_denominator, small_size}

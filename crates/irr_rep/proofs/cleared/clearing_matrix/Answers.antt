@@ -1,5 +1,5 @@
 -- Entry by entry.
-use Rattle.std.proofs.Common.{◌<◌, ◌≡◌, subst, rules}
+use Rattle.std.proofs.Common.{◌<◌, rules}
 use Rattle.irr_rep.proofs.CommonDenominators.{entry_within}
 use Rattle.irr_rep.proofs.cleared.clearing_matrix.Goals as goal
 

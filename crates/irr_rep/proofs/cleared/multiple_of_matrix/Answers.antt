@@ -2,7 +2,7 @@
 use Rattle.std.proofs.Common.{◌≡◌, sym, ◌∙◌, ap, subst, ℕ, ◌≤◌, Result, Ok, Err, IfOk}
 use Rattle.irr_algebra.specs.Ring.{whole}
 use Rattle.irr_algebra.proofs.Rings.{mul-one}
-use Rattle.irr_number.specs.Number.{Number, numbers, root_power}
+use Rattle.irr_number.specs.Number.{numbers, root_power}
 use Rattle.irr_number.proofs.Primes.{divisor_pos}
 use Rattle.irr_number.proofs.RootPowers.{root_power-zero}
 use Rattle.irr_canonical.specs.RootSum.{IsRootSum}

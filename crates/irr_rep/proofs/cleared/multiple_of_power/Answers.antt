@@ -1,5 +1,5 @@
 -- One term.
-use Rattle.std.proofs.Common.{◌≡◌, ◌∙◌, Result, Ok, Err, IfOk, w64}
+use Rattle.std.proofs.Common.{◌∙◌, Result, Ok, Err, IfOk, w64}
 use Rattle.std.proofs.lemmas.Int.{to_z-of_z}
 use Rattle.irr_rep.proofs.Clearing.{power_of_term}
 use Rattle.irr_rep.proofs.cleared.multiple_of_power.Goals as goal
