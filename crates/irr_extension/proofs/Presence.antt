@@ -1,4 +1,5 @@
 -- A number that occurs as an eigenvalue is one of the values of the eigenspaces.
+--   null_of_scales: what two different numbers multiply alike is 0
 --   value_of_occurs: its index
 use Rattle.std.proofs.Common.{◌≡◌, sym, ◌∙◌, ap, ap₂, refl, ℕ, suc, ◌⊎◌, inl, inr}
 use Rattle.irr_algebra.specs.Field.{Field}
@@ -16,7 +17,7 @@ module _ (F : Field) where
   open F use {ring as R}
 
   -- what two different numbers multiply alike is 0
-  null_of_scales : {m n : ℕ} (x y : R.Carrier) (a : Matrix R m n) → (x ≡ y → ⊥) → scale R x a ≡ scale R y a → a ≡ null
+  pub null_of_scales : {m n : ℕ} (x y : R.Carrier) (a : Matrix R m n) → (x ≡ y → ⊥) → scale R x a ≡ scale R y a → a ≡ null
   null_of_scales {m} {n} x y a h e = null_of_entries (λ i j.
       mul_cancel F (R.add x (R.neg y)) (a.at i j) R.zero (λ z. h (eq_of_sub-zero R x y z))
       (add-mul R x (R.neg y) (a.at i j)
