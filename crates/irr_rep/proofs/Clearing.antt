@@ -34,7 +34,8 @@ pub clearing_divides : (n s q d m : ℕ) (z : ℤ) (x y : Number n) → 0 < n �
     → (numbers n).mul (whole (numbers n) 1) y ≡ (numbers n).mul (integer (numbers n) z) x → m ≡ denominator n y → q * m ∣ d
 clearing_divides n s q d m z x y p v h e t is =
     let same : y ≡ (numbers n).mul (whole (numbers n) q) x =
-    one_times n y ((numbers n).mul (integer (numbers n) z) x) t ∙ ap (λ c. (numbers n).mul c x) (ap (integer (numbers n)) e ∙ integer-pos (numbers n) q) in
+    one_times n y ((numbers n).mul (integer (numbers n) z) x) t ∙ ap (λ c. (numbers n).mul c x)
+    (ap (integer (numbers n)) e ∙ integer-pos (numbers n) q) in
     let sum : IsRootSum n s (d / q) y = subst (IsRootSum n s (d / q)) (sym same) (root_sum_cleared n s q d x v h) in
     let w : m ∣ d / q = subst (λ k. k ∣ d / q) (sym is) (denominator_of_IsRootSum n p s (d / q) y sum) in
     subst (λ k. q * m ∣ k) (Nat.mul-div_cancel' q v) (Nat.mul-dvd-mul q m (Nat.dvd_refl q) w)
@@ -52,9 +53,11 @@ small_size n d x p l h q few =
 pub power_of_term : (n j q : ℕ) (z : ℤ) (x : Number n) → z ≡ pos q → (numbers n).mul (whole (numbers n) 1) x ≡ terms_sum n ((j, z) ∷ [])
     → x ≡ (numbers n).mul (whole (numbers n) q) (root_power n j)
 unfolding terms_sum
-power_of_term n j q z x e t = one_times n x _ t ∙ (numbers n).add-zero _ ∙ ap (λ c. (numbers n).mul c (root_power n j)) (ap (integer (numbers n)) e ∙ integer-pos (numbers n) q)
+power_of_term n j q z x e t = one_times n x _ t ∙ (numbers n).add-zero _
+    ∙ ap (λ c. (numbers n).mul c (root_power n j)) (ap (integer (numbers n)) e ∙ integer-pos (numbers n) q)
 
-module _ {S : Type 0} {G : Ghosts S} (n h d e : ℕ) (mats : List (Mat S G)) (l : IsLimited n h d e mats) (k : ℕ) (m : Mat S G) (within : k < length mats)
+module _ {S : Type 0} {G : Ghosts S} (n h d e : ℕ) (mats : List (Mat S G)) (l : IsLimited n h d e mats) (k : ℕ) (m : Mat S G)
+    (within : k < length mats)
     (is : m ≡ get_or mats k m) where
   -- the place of the k-th matrix
   unfoldable pub part-place : Fin h

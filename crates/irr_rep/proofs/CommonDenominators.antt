@@ -47,7 +47,8 @@ root_sum_cleared N s q d x v h = record {
       ∙ ap (λ y. (numbers N).mul y x) (sym (whole-mul (numbers N) (d / q) q) ∙ ap (whole (numbers N)) (Nat.div-mul_cancel q v)) ∙ h.multiple;
 }
 
-pub within_cleared : (N r c s q d : ℕ) (a : Matrix (numbers N) r c) → q ∣ d → IsWithin N s d a → IsWithin N s (d / q) (scale (numbers N) (whole (numbers N) q) a)
+pub within_cleared : (N r c s q d : ℕ) (a : Matrix (numbers N) r c) → q ∣ d → IsWithin N s d a
+    → IsWithin N s (d / q) (scale (numbers N) (whole (numbers N) q) a)
 unfolding scale
 within_cleared N r c s q d a v w = record {
   positive = quotient_positive q d w.positive v;
@@ -74,7 +75,8 @@ module _ {S : Type 0} {G : Ghosts S} where
 
   pub entry_within : (n r s d : ℕ) (a : Matrix (numbers n) r r) (m : Mat S G) → IsMatrix n r a m → IsWithin n s d a → (i j : ℕ) (x : S)
       → i < m.rows → j < m.cols → G.order_of x ≡ first_order G.order_of m.entries.items
-      → ((u : ℕ) → IsEntry (matrix_of G.value u m.rows m.cols m.entries.items) i j (G.value u x)) → IsRootSum (G.order_of x) s d (G.value (G.order_of x) x)
+      → ((u : ℕ) → IsEntry (matrix_of G.value u m.rows m.cols m.entries.items) i j (G.value u x))
+      → IsRootSum (G.order_of x) s d (G.value (G.order_of x) x)
   entry_within n r s d a m is w i j x li lj o at =
       let p = from_nat m.rows i li in
       let q = from_nat m.cols j lj in
@@ -93,7 +95,8 @@ module _ {S : Type 0} {G : Ghosts S} where
     within = λ i. subst (IsWithin n (2 ^ 30) (e / q)) (sym (a.multiple i)) (within_cleared n d d (2 ^ 30) q e (matrix_at n d mats i) v (l.within i));
   }
 
-  abbrev pub checkable_multiples : {h : ℕ} (T : PhaseTable h) (d q : ℕ) (mats multiples : List (Mat S G)) (p : IsCheckable T d mats) → q ∣ p.denominator
+  abbrev pub checkable_multiples : {h : ℕ} (T : PhaseTable h) (d q : ℕ) (mats multiples : List (Mat S G)) (p : IsCheckable T d mats)
+      → q ∣ p.denominator
       → AreMultiples p.n h d q mats multiples → IsCheckable T d multiples
   checkable_multiples {h} T d q mats multiples p v a = record {
     n = p.n;
@@ -117,7 +120,8 @@ module _ (R : Ring) {r : ℕ} (q s : R.Carrier) (a b w : Matrix R r r) where
   scaled_twice = scale-scale R (R.mul q s) q w ∙ ap (λ x. scale R x w) (R.mul_comm (R.mul q s) q)
       ∙ sym (scale-scale R q (R.mul q s) w) ∙ ap (scale R q) (sym (scale-scale R q s w))
 
-module _ {S : Type 0} {G : Ghosts S} {h : ℕ} (T : PhaseTable h) (n : ℕ) (v : T.order ∣ n) (d q : ℕ) (mats multiples : List (Mat S G)) (positive : 0 < n)
+module _ {S : Type 0} {G : Ghosts S} {h : ℕ} (T : PhaseTable h) (n : ℕ) (v : T.order ∣ n) (d q : ℕ) (mats multiples : List (Mat S G))
+    (positive : 0 < n)
     (some : 0 < q) (are : AreMultiples n h d q mats multiples) (i j : Fin h) where
   abbrev k : Number n
   k = whole (numbers n) q
@@ -125,7 +129,8 @@ module _ {S : Type 0} {G : Ghosts S} {h : ℕ} (T : PhaseTable h) (n : ℕ) (v :
   abbrev x : Number n
   x = (phases_over T n v).phase i j
 
-  left : matrix_at n d multiples i · matrix_at n d multiples j ≡ scale (numbers n) k (scale (numbers n) k (matrix_at n d mats i · matrix_at n d mats j))
+  left : matrix_at n d multiples i · matrix_at n d multiples j ≡ scale (numbers n) k
+      (scale (numbers n) k (matrix_at n d mats i · matrix_at n d mats j))
   left = ap₂ (λ (a b : Matrix (numbers n) d d). a · b) (are.multiple i) (are.multiple j)
       ∙ product_of_scaled (numbers n) k x (matrix_at n d mats i) (matrix_at n d mats j) (matrix_at n d mats i)
 

@@ -43,14 +43,18 @@ module _ {h : ℕ} (T : PhaseTable h) (M : ℕ) (positive : 0 < M) (divides : T.
       × (cycle.number ≡ root_power M (exponents_below T.start T.product T.exponent g m / m * (M / T.order)))
       × (cycle.root ≡ root_power M (T.order / m * (M / T.order)))
   cycle_over g m order =
-      let y : (y : ℕ) × (exponents_below T.start T.product T.exponent g m ≡ m * y) = cofactor m (exponents_below T.start T.product T.exponent g m) (T.exponents_divided g m order) in
+      let y : (y : ℕ) × (exponents_below T.start T.product T.exponent g m ≡ m * y) =
+      cofactor m (exponents_below T.start T.product T.exponent g m) (T.exponents_divided g m order) in
       let q : (q : ℕ) × (T.order ≡ m * q) = cofactor m T.order (T.order_divides g m order) in
-      let made = cycle_of_exponents (phases_over T M divides) T.order (root_power M (M / T.order)) T.exponent g m q.0 y.0 exponents_over order.positive (above q.0 q.1) q.1
+      let made = cycle_of_exponents (phases_over T M divides) T.order
+      (root_power M (M / T.order)) T.exponent g m q.0 y.0 exponents_over order.positive (above q.0 q.1) q.1
       (place-lifted_power g m ∙ order.power) (exponent_sum-below g m ∙ y.1) in (
         made.0,
         made.1,
-        made.2 ∙ power-root_power M (M / T.order) y.0 ∙ ap (λ a. root_power M (a * (M / T.order))) (sym (Nat.div-eq_of_eq-mul_right order.positive y.1)),
-        made.3 ∙ power-root_power M (M / T.order) q.0 ∙ ap (λ a. root_power M (a * (M / T.order))) (sym (Nat.div-eq_of_eq-mul_right order.positive q.1)),
+        made.2 ∙ power-root_power M (M / T.order) y.0 ∙ ap (λ a. root_power M (a * (M / T.order)))
+            (sym (Nat.div-eq_of_eq-mul_right order.positive y.1)),
+        made.3 ∙ power-root_power M (M / T.order) q.0 ∙ ap (λ a. root_power M (a * (M / T.order)))
+            (sym (Nat.div-eq_of_eq-mul_right order.positive q.1)),
       )
     where
       above : (q : ℕ) → T.order ≡ m * q → 0 < q

@@ -63,7 +63,8 @@ module _ {h : ℕ} (T : PhaseTable h) (g : Fin h) where
   cancelled : (i j : Fin h) → T.product g i ≡ T.product g j → i ≡ j
   cancelled i j e =
       sym (T.start-product i) ∙ ap (λ a. T.product a i) (sym (T.opposite-product g)) ∙ T.product_assoc (T.opposite g) g i
-      ∙ ap (T.product (T.opposite g)) e ∙ sym (T.product_assoc (T.opposite g) g j) ∙ ap (λ a. T.product a j) (T.opposite-product g) ∙ T.start-product j
+      ∙ ap (T.product (T.opposite g)) e ∙ sym (T.product_assoc (T.opposite g) g j) ∙ ap (λ a. T.product a j) (T.opposite-product g)
+      ∙ T.start-product j
 
   -- what is left of two equal powers
   difference : (a d : ℕ) → at a ≡ at (a + d) → T.start ≡ at d

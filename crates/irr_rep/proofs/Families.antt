@@ -48,7 +48,8 @@ module _ {h : ℕ} (T : PhaseTable h) (v : T.order ∣ T.order) {d : ℕ} where
   at_own_order-over A i = matrix-ext (λ k l. lift_self T.order T.order_positive v ((A.at i).at k l))
 
 -- the matrix that stands at a place
-module _ {S : Type 0} {G : Ghosts S} {h : ℕ} (n d : ℕ) (mats : List (Mat S G)) (k : ℕ) (m : Mat S G) (within : k < length mats) (is : m ≡ get_or mats k m) where
+module _ {S : Type 0} {G : Ghosts S} {h : ℕ} (n d : ℕ) (mats : List (Mat S G)) (k : ℕ) (m : Mat S G) (within : k < length mats)
+    (is : m ≡ get_or mats k m) where
   pub matrix_at-item : (i : Fin h) → to_nat i ≡ k → matrix_at n d mats i ≡ matrix_of G.value n d d m.entries.items
   unfolding matrix_at
   matrix_at-item i e = ap (matrix_of G.value n d d)
@@ -68,13 +69,15 @@ module _ {S : Type 0} {G : Ghosts S} {h : ℕ} (n d : ℕ) (mats : List (Mat S G
 
     -- the trace can be worked out, and is the trace at the place
     pub item-trace_fits : (i : Fin h) → to_nat i ≡ k → TraceFits n (matrix_at n d mats i)
-        → TraceFits (first_order G.order_of m.entries.items) (matrix_of G.value (first_order G.order_of m.entries.items) m.rows m.rows m.entries.items)
+        → TraceFits (first_order G.order_of m.entries.items)
+        (matrix_of G.value (first_order G.order_of m.entries.items) m.rows m.rows m.entries.items)
     item-trace_fits i e fits =
         subst (λ u. TraceFits u (matrix_of G.value u m.rows m.rows m.entries.items)) (sym item-order)
         (subst (λ r. TraceFits n (matrix_of G.value n r r m.entries.items)) (sym item-rows) (subst (TraceFits n) (matrix_at-item i e) fits))
 
     pub item-trace : (x : S) (i : Fin h) → to_nat i ≡ k
-        → G.value (first_order G.order_of m.entries.items) x ≡ trace (matrix_of G.value (first_order G.order_of m.entries.items) m.rows m.rows m.entries.items)
+        → G.value (first_order G.order_of m.entries.items) x ≡ trace
+        (matrix_of G.value (first_order G.order_of m.entries.items) m.rows m.rows m.entries.items)
         → G.value n x ≡ trace (matrix_at n d mats i)
     item-trace x i e v =
         subst (λ u. G.value u x ≡ trace (matrix_of G.value u m.rows m.rows m.entries.items)) item-order v

@@ -72,9 +72,11 @@ module _ {h : ℕ} (T : PhaseTable h) (order : ℕ) (xs ys : List ℕ) (listed :
         (λ a. ap (λ k. entry h ys k (to_nat a)) (sym T.start_first) ∙ exponent-at T.start a ∙ T.start-exponent a);
     exponent-unit = everywhere (λ i. entry h ys i 0 ≡ 0)
         (λ a. ap (entry h ys (to_nat a)) (sym T.start_first) ∙ exponent-at a T.start ∙ T.exponent-start a);
-    exponent_assoc = everywhere₃ (λ i j k. (entry h ys i j + entry h ys (entry h xs i j) k) % order ≡ (entry h ys j k + entry h ys i (entry h xs j k)) % order)
+    exponent_assoc = everywhere₃ (λ i j k. (entry h ys i j + entry h ys (entry h xs i j) k) % order ≡ (entry h ys j k + entry h ys i
+        (entry h xs j k)) % order)
         (λ a b c. ap₂ (λ u v. (u + v) % order) (exponent-at a b) (ap (λ i. entry h ys i (to_nat c)) (product-at a b) ∙ exponent-at (T.product a b) c)
-        ∙ subst (λ k. (T.exponent a b + T.exponent (T.product a b) c) % k ≡ (T.exponent b c + T.exponent a (T.product b c)) % k) listed.same_order (T.exponent_assoc a b c)
+        ∙ subst (λ k. (T.exponent a b + T.exponent (T.product a b) c) % k ≡ (T.exponent b c + T.exponent a (T.product b c)) % k) listed.same_order
+        (T.exponent_assoc a b c)
         ∙ sym (ap₂ (λ u v. (u + v) % order) (exponent-at b c) (ap (entry h ys (to_nat a)) (product-at b c) ∙ exponent-at a (T.product b c))));
     order_divides = λ i m lt. everywhere (λ k. IsElementOrder (entry h xs) k m → m ∣ order)
         (λ a o. subst (λ k. m ∣ k) listed.same_order (T.order_divides a m (order-at a m o))) i lt;

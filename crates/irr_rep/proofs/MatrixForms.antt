@@ -73,10 +73,12 @@ module _ {S : Type 0} {G : Ghosts S} where
     pub same-to : matrix_of G.value (first_order G.order_of m.entries.items) m.rows m.cols m.entries.items
         ≡ matrix_of G.value (first_order G.order_of m.entries.items) m.rows m.cols k.entries.items → a ≡ b
     same-to e = sym left.value
-        ∙ subst (λ c. M n d c ≡ K n d c) left.cols (subst (λ r. M n r m.cols ≡ K n r m.cols) left.rows (subst (λ u. M u m.rows m.cols ≡ K u m.rows m.cols) left.order e))
+        ∙ subst (λ c. M n d c ≡ K n d c) left.cols (subst (λ r. M n r m.cols ≡ K n r m.cols) left.rows
+        (subst (λ u. M u m.rows m.cols ≡ K u m.rows m.cols) left.order e))
         ∙ right.value
 
-    pub same-from : a ≡ b → (m.rows ≡ k.rows) × (m.cols ≡ k.cols) × (matrix_of G.value (first_order G.order_of m.entries.items) m.rows m.cols m.entries.items
+    pub same-from : a ≡ b → (m.rows ≡ k.rows) × (m.cols ≡ k.cols) × (matrix_of G.value
+        (first_order G.order_of m.entries.items) m.rows m.cols m.entries.items
         ≡ matrix_of G.value (first_order G.order_of m.entries.items) m.rows m.cols k.entries.items)
     same-from e = (
       left.rows ∙ sym right.rows,
@@ -85,9 +87,11 @@ module _ {S : Type 0} {G : Ghosts S} where
           (subst (λ c. M n d c ≡ K n d c) (sym left.cols) (left.value ∙ e ∙ sym right.value))),
     )
 
-    pub multiplied : (z : Mat S G) → z.rows ≡ m.rows → z.cols ≡ k.cols → first_order G.order_of z.entries.items ≡ first_order G.order_of m.entries.items
+    pub multiplied : (z : Mat S G) → z.rows ≡ m.rows → z.cols ≡ k.cols
+        → first_order G.order_of z.entries.items ≡ first_order G.order_of m.entries.items
         → matrix_of G.value (first_order G.order_of m.entries.items) m.rows k.cols z.entries.items
-        ≡ matrix_of G.value (first_order G.order_of m.entries.items) m.rows m.cols m.entries.items · matrix_of G.value (first_order G.order_of m.entries.items) m.cols k.cols k.entries.items
+        ≡ matrix_of G.value (first_order G.order_of m.entries.items) m.rows m.cols m.entries.items · matrix_of G.value
+        (first_order G.order_of m.entries.items) m.cols k.cols k.entries.items
         → IsMatrix n d (a · b) z
     multiplied z r c o v = record {
       rows = r ∙ left.rows;
@@ -102,7 +106,8 @@ module _ {S : Type 0} {G : Ghosts S} where
     }
 
   module _ (n d : ℕ) (a : Matrix (numbers n) d d) (m : Mat S G) (is : IsMatrix n d a m) (x : S) where
-    pub multiple_fits : MultiplesFit n (G.value n x) a → MultiplesFit (first_order G.order_of m.entries.items) (G.value (first_order G.order_of m.entries.items) x)
+    pub multiple_fits : MultiplesFit n (G.value n x) a → MultiplesFit (first_order G.order_of m.entries.items)
+        (G.value (first_order G.order_of m.entries.items) x)
         (matrix_of G.value (first_order G.order_of m.entries.items) m.rows m.cols m.entries.items)
     multiple_fits fits =
         subst (λ u. MultiplesFit u (G.value u x) (matrix_of G.value u m.rows m.cols m.entries.items)) (sym is.order)
@@ -110,7 +115,8 @@ module _ {S : Type 0} {G : Ghosts S} where
         (subst (λ c. MultiplesFit n (G.value n x) (matrix_of G.value n d c m.entries.items)) (sym is.cols)
         (subst (λ y. MultiplesFit n (G.value n x) y) (sym is.value) fits)))
 
-    pub scaled : (s : Number n) → G.value n x ≡ s → (z : Mat S G) → z.rows ≡ m.rows → z.cols ≡ m.cols → first_order G.order_of z.entries.items ≡ first_order G.order_of m.entries.items
+    pub scaled : (s : Number n) → G.value n x ≡ s → (z : Mat S G) → z.rows ≡ m.rows → z.cols ≡ m.cols
+        → first_order G.order_of z.entries.items ≡ first_order G.order_of m.entries.items
         → matrix_of G.value (first_order G.order_of m.entries.items) m.rows m.cols z.entries.items
         ≡ scale (numbers (first_order G.order_of m.entries.items)) (G.value (first_order G.order_of m.entries.items) x)
         (matrix_of G.value (first_order G.order_of m.entries.items) m.rows m.cols m.entries.items)
@@ -121,8 +127,10 @@ module _ {S : Type 0} {G : Ghosts S} where
       order = o ∙ is.order;
       value =
           subst (λ w. matrix_of G.value n d w z.entries.items ≡ scale (numbers n) (G.value n x) (matrix_of G.value n d w m.entries.items)) is.cols
-          (subst (λ w. matrix_of G.value n w m.cols z.entries.items ≡ scale (numbers n) (G.value n x) (matrix_of G.value n w m.cols m.entries.items)) is.rows
-          (subst (λ u. matrix_of G.value u m.rows m.cols z.entries.items ≡ scale (numbers u) (G.value u x) (matrix_of G.value u m.rows m.cols m.entries.items)) is.order v))
+          (subst (λ w. matrix_of G.value n w m.cols z.entries.items ≡ scale (numbers n) (G.value n x)
+          (matrix_of G.value n w m.cols m.entries.items)) is.rows
+          (subst (λ u. matrix_of G.value u m.rows m.cols z.entries.items ≡ scale (numbers u) (G.value u x)
+          (matrix_of G.value u m.rows m.cols m.entries.items)) is.order v))
           ∙ ap₂ (scale (numbers n)) e is.value;
     }
 

@@ -32,7 +32,8 @@ module _ (t : Twisted) (members : List ℕ) (subgroup : IsSubgroup (phase_table 
       → Contains members (entry (place_count t) t.products.items (slice_index members a) (slice_index members b))
   product_inside a b p q =
       subst (λ k. Contains members k)
-      (sym (product_at t (slice_index members a) (slice_index members b) (member_place a p) (member_place b q) (to_nat-member_place a p) (to_nat-member_place b q)))
+      (sym (product_at t (slice_index members a) (slice_index members b) (member_place a p) (member_place b q) (to_nat-member_place a p)
+      (to_nat-member_place b q)))
       (subgroup.products_inside (member_place a p) (member_place b q) (member-contained a p) (member-contained b q))
 
   pub inverse_inside : (a : ℕ) → a < length members
@@ -42,7 +43,8 @@ module _ (t : Twisted) (members : List ℕ) (subgroup : IsSubgroup (phase_table 
       let found : Contains members (to_nat (T.opposite (member_place a p))) = subgroup.opposites_inside (member_place a p) (member-contained a p) in (
         found.0,
         found.1,
-        product_at t (slice_index members a) (slice_index members found.0) (member_place a p) (T.opposite (member_place a p)) (to_nat-member_place a p)
+        product_at t (slice_index members a) (slice_index members found.0) (member_place a p) (T.opposite (member_place a p))
+            (to_nat-member_place a p)
             (sym (get_or_default members found.0 0 (to_nat (T.opposite (member_place a p))) found.1 ∙ found.2))
             ∙ ap to_nat (T.product-opposite (member_place a p)) ∙ T.start_first,
       )
@@ -63,11 +65,13 @@ module _ (t : Twisted) (members : List ℕ) (subgroup : IsSubgroup (phase_table 
       → x ≡ entry (place_count t) t.products.items (slice_index members a) (slice_index members b)
   product_of_members a b x p q given =
       given (member_place a p) (member_place b q) (to_nat-member_place a p) (to_nat-member_place b q)
-      ∙ sym (product_at t (slice_index members a) (slice_index members b) (member_place a p) (member_place b q) (to_nat-member_place a p) (to_nat-member_place b q))
+      ∙ sym (product_at t (slice_index members a) (slice_index members b) (member_place a p) (member_place b q) (to_nat-member_place a p)
+      (to_nat-member_place b q))
 
   pub exponent_of_members : (a b x : ℕ) → a < length members → b < length members
       → ((p q : Fin (place_count t)) → to_nat p ≡ slice_index members a → to_nat q ≡ slice_index members b → x ≡ (phase_table t).exponent p q)
       → IsMemberExponent t members a b x
   exponent_of_members a b x p q given =
       given (member_place a p) (member_place b q) (to_nat-member_place a p) (to_nat-member_place b q)
-      ∙ sym (exponent_at t (slice_index members a) (slice_index members b) (member_place a p) (member_place b q) (to_nat-member_place a p) (to_nat-member_place b q))
+      ∙ sym (exponent_at t (slice_index members a) (slice_index members b) (member_place a p) (member_place b q) (to_nat-member_place a p)
+      (to_nat-member_place b q))

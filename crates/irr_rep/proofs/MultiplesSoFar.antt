@@ -48,7 +48,8 @@ module _ {S : Type 0} {G : Ghosts S} (d q : ℕ) (mats : List (Mat S G)) where
       at n h s i m is (inr b) = subst (IsMultiple n i)
           (sym (is ∙ ap (λ j. get_or (xs ++ x ∷ []) j m) (b ∙ sym f.count) ∙ get_or-append_seam xs x [] m)) (last n h s i b)
 
-  pub multiples-all : (k : ℕ) (xs : List (Mat S G)) → AreMultiplesSoFar k xs → k ≡ length mats → (n h : ℕ) → HasShape n h d mats → AreMultiples n h d q mats xs
+  pub multiples-all : (k : ℕ) (xs : List (Mat S G)) → AreMultiplesSoFar k xs → k ≡ length mats → (n h : ℕ) → HasShape n h d mats
+      → AreMultiples n h d q mats xs
   multiples-all k xs f e n h s = record {
     shape = record {
       count = full;

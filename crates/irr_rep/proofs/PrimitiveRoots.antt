@@ -75,7 +75,8 @@ module _ (N : ℕ) (positive : 0 < N) where
           large (suc (suc q)) s = omega arith
       step j smaller above below e q (suc r) split less =
           smaller (suc r) less (omega arith) (omega arith)
-          (sym (ap (λ x. (numbers N).mul x (root_power N (suc r))) (multiple-one j q e) ∙ (numbers N).mul_comm (numbers N).one (root_power N (suc r)) ∙ (numbers N).mul-one (root_power N (suc r)))
+          (sym (ap (λ x. (numbers N).mul x (root_power N (suc r))) (multiple-one j q e) ∙ (numbers N).mul_comm (numbers N).one (root_power N (suc r))
+          ∙ (numbers N).mul-one (root_power N (suc r)))
           ∙ root_power-mul N (q * j) (suc r) ∙ ap (root_power N) (sym split) ∙ root_power-order N)
 
   pub primitive-root_power : IsPrimitiveRoot (numbers N) N (root_power N 1)
@@ -90,7 +91,8 @@ primitive_over N M positive positive_over divides =
     let part : M / N ≡ rest.0 = Nat.div-eq_of_eq-mul_right positive rest.1 in
     let above : 0 < rest.0 = above_zero rest.0 rest.1 in
     subst (IsPrimitiveRoot (numbers M) N) (power-root_power M 1 rest.0 ∙ ap (root_power M) (Nat.mul-one rest.0 ∙ sym part))
-    (primitive-power N rest.0 (root_power M 1) above (subst (λ k. IsPrimitiveRoot (numbers M) k (root_power M 1)) rest.1 (primitive-root_power M positive_over)))
+    (primitive-power N rest.0 (root_power M 1) above (subst (λ k. IsPrimitiveRoot (numbers M) k (root_power M 1)) rest.1
+    (primitive-root_power M positive_over)))
   where
     above_zero : (c : ℕ) → M ≡ N * c → 0 < c
     above_zero zero e = absurd (omega (arith, e))

@@ -15,7 +15,8 @@ use Rattle.irr_rep.specs.TableLaws.{to_nat-place_product, to_nat-opposite_place}
 use Rattle.irr_rep.specs.Twisted.{phase_table, place_count, table_of}
 
 -- the entry that is read at its place in the list
-pub entry_read : (xs : List ℕ) (h i j k x n : ℕ) → x ≡ slice_index_or xs k x → k < h * h → n ≡ h * h → n ≡ length xs → k ≡ i * h + j → x ≡ entry h xs i j
+pub entry_read : (xs : List ℕ) (h i j k x n : ℕ) → x ≡ slice_index_or xs k x → k < h * h → n ≡ h * h → n ≡ length xs → k ≡ i * h + j
+    → x ≡ entry h xs i j
 entry_read xs h i j k x n read within total count place =
     get_or_read_under xs k (h * h) x 0 read within (sym total ∙ count) ∙ ap (slice_index xs) place
 
@@ -24,22 +25,27 @@ module _ (t : Twisted) where
   unfolding phase_table table_of
   order-phase_table = refl
 
-  pub product-phase_table : (i j : Fin (place_count t)) → to_nat ((phase_table t).product i j) ≡ entry (place_count t) t.products.items (to_nat i) (to_nat j)
+  pub product-phase_table : (i j : Fin (place_count t)) → to_nat ((phase_table t).product i j) ≡ entry (place_count t) t.products.items (to_nat i)
+      (to_nat j)
   unfolding phase_table table_of
   product-phase_table i j = to_nat-place_product (place_count t) (entry (place_count t) t.products.items) t.group i j
 
-  pub exponent-phase_table : (i j : Fin (place_count t)) → (phase_table t).exponent i j ≡ entry (place_count t) t.exponents.items (to_nat i) (to_nat j)
+  pub exponent-phase_table : (i j : Fin (place_count t)) → (phase_table t).exponent i j ≡ entry (place_count t) t.exponents.items (to_nat i)
+      (to_nat j)
   unfolding phase_table table_of
   exponent-phase_table i j = refl
 
   pub opposite-phase_table : (i : Fin (place_count t)) → to_nat ((phase_table t).opposite i) ≡ slice_index t.inverses.items (to_nat i)
   unfolding phase_table table_of
-  opposite-phase_table i = to_nat-opposite_place (place_count t) (entry (place_count t) t.products.items) t.group (slice_index t.inverses.items) t.opposites i
+  opposite-phase_table i = to_nat-opposite_place (place_count t) (entry (place_count t) t.products.items) t.group
+      (slice_index t.inverses.items) t.opposites i
 
-  pub product_at : (i j : ℕ) (p q : Fin (place_count t)) → to_nat p ≡ i → to_nat q ≡ j → entry (place_count t) t.products.items i j ≡ to_nat ((phase_table t).product p q)
+  pub product_at : (i j : ℕ) (p q : Fin (place_count t)) → to_nat p ≡ i → to_nat q ≡ j
+      → entry (place_count t) t.products.items i j ≡ to_nat ((phase_table t).product p q)
   product_at i j p q e f = sym (product-phase_table p q ∙ ap₂ (entry (place_count t) t.products.items) e f)
 
-  pub exponent_at : (i j : ℕ) (p q : Fin (place_count t)) → to_nat p ≡ i → to_nat q ≡ j → entry (place_count t) t.exponents.items i j ≡ (phase_table t).exponent p q
+  pub exponent_at : (i j : ℕ) (p q : Fin (place_count t)) → to_nat p ≡ i → to_nat q ≡ j
+      → entry (place_count t) t.exponents.items i j ≡ (phase_table t).exponent p q
   exponent_at i j p q e f = sym (exponent-phase_table p q ∙ ap₂ (entry (place_count t) t.exponents.items) e f)
 
   pub inverse_at : (i : ℕ) (p : Fin (place_count t)) → to_nat p ≡ i → slice_index t.inverses.items i ≡ to_nat ((phase_table t).opposite p)

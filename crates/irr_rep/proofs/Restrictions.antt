@@ -27,7 +27,8 @@ module _ (h n : ℕ) (l l' : ℕ → ℕ → ℕ) (m : ℕ → ℕ) (group : IsG
         ((inside 0 a positive p).1 ∙ ap (λ k. l k (m a)) first ∙ group.unit-product (m a) (below a p));
     product-unit = λ a p. distinct (l' a 0) a (inside a 0 p positive).0 p
         ((inside a 0 p positive).1 ∙ ap (l (m a)) first ∙ group.product-unit (m a) (below a p));
-    product_assoc = λ a b c p q r. distinct (l' (l' a b) c) (l' a (l' b c)) (inside (l' a b) c (inside a b p q).0 r).0 (inside a (l' b c) p (inside b c q r).0).0
+    product_assoc = λ a b c p q r. distinct (l' (l' a b) c) (l' a (l' b c)) (inside (l' a b) c (inside a b p q).0 r).0
+        (inside a (l' b c) p (inside b c q r).0).0
         ((inside (l' a b) c (inside a b p q).0 r).1 ∙ ap (λ k. l k (m c)) (inside a b p q).1
         ∙ group.product_assoc (m a) (m b) (m c) (below a p) (below b q) (below c r)
         ∙ sym ((inside a (l' b c) p (inside b c q r).0).1 ∙ ap (l (m a)) (inside b c q r).1));
@@ -69,7 +70,8 @@ module _ (h n : ℕ) (l l' : ℕ → ℕ → ℕ) (m : ℕ → ℕ) (group : IsG
           ∙ factors.exponent_assoc (m a) (m b) (m c) (below a p) (below b q) (below c r)
           ∙ sym (ap₂ (λ u v. (u + v) % order) (same b c q r) (same a (l' b c) p (inside b c q r).0 ∙ ap (x (m a)) (inside b c q r).1));
       order_divides = λ a k p o. factors.order_divides (m a) k (below a p) (order-inside a k p o);
-      exponents_divided = λ a k p o. subst (λ s. k ∣ s) (sym (exponents-inside a p k)) (factors.exponents_divided (m a) k (below a p) (order-inside a k p o));
+      exponents_divided = λ a k p o. subst (λ s. k ∣ s) (sym (exponents-inside a p k))
+          (factors.exponents_divided (m a) k (below a p) (order-inside a k p o));
     }
 
 module _ (t : Twisted) (members : List ℕ) (subgroup : IsSubgroup (phase_table t) members) (xs ys : List ℕ) where
@@ -91,7 +93,8 @@ module _ (t : Twisted) (members : List ℕ) (subgroup : IsSubgroup (phase_table 
   factors_of_members : AreEntries (length members) (IsMemberProduct t members) xs → AreEntries (length members) (IsMemberExponent t members) ys
       → IsFactorSystem t.order (length members) (entry (length members) xs) (entry (length members) ys)
   factors_of_members products exponents = factors-inside (place_count t) (length members) product (entry (length members) xs) (slice_index members)
-      t.group subgroup.below subgroup.distinct subgroup.not_empty subgroup.unit_first products exponent (entry (length members) ys) exponents t.order t.factors
+      t.group subgroup.below subgroup.distinct subgroup.not_empty subgroup.unit_first products exponent
+      (entry (length members) ys) exponents t.order t.factors
 
   module _ (n : ℕ) (count : n ≡ length members) (products : AreEntries (length members) (IsMemberProduct t members) xs) where
     pub restricted_group : IsGroup n (entry n xs)
@@ -111,7 +114,8 @@ module _ (t : Twisted) (members : List ℕ) (subgroup : IsSubgroup (phase_table 
         member = member;
         member-number = number;
         member-product = λ i j. to_nat_inj (member (S.product i j)) ((phase_table t).product (member i) (member j))
-            (number (S.product i j) ∙ ap (slice_index members) (listed.product-entry i j) ∙ (product_entries (to_nat i) (to_nat j) (to_nat-lt i) (to_nat-lt j)).1
+            (number (S.product i j) ∙ ap (slice_index members) (listed.product-entry i j)
+            ∙ (product_entries (to_nat i) (to_nat j) (to_nat-lt i) (to_nat-lt j)).1
             ∙ sym (product-phase_table t (member i) (member j) ∙ ap₂ product (number i) (number j)));
         same_exponent = λ i j. listed.exponent-entry i j ∙ exponent_entries (to_nat i) (to_nat j) (to_nat-lt i) (to_nat-lt j)
             ∙ sym (exponent-phase_table t (member i) (member j) ∙ ap₂ exponent (number i) (number j));

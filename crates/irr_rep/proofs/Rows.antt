@@ -16,7 +16,8 @@ pub record FilledRows (n : ℕ) (P : ℕ → ℕ → ℕ → Type 0) (xs : List 
 pub filled-nil : (n : ℕ) (P : ℕ → ℕ → ℕ → Type 0) → FilledRows n P []
 filled-nil n P = record { filled = λ a b lt within. absurd (omega arith) }
 
-pub filled-push : (n : ℕ) (P : ℕ → ℕ → ℕ → Type 0) (xs : List ℕ) (i j x : ℕ) → FilledRows n P xs → length xs ≡ i * n + j → j < n → P i j x → FilledRows n P (xs ++ x ∷ [])
+pub filled-push : (n : ℕ) (P : ℕ → ℕ → ℕ → Type 0) (xs : List ℕ) (i j x : ℕ) → FilledRows n P xs → length xs ≡ i * n + j → j < n → P i j x
+    → FilledRows n P (xs ++ x ∷ [])
 filled-push n P xs i j x so_far place below here = record { filled = λ a b lt within. at a b lt (cases_lt (a * n + b) (length xs)) within }
   where
     last : (a b : ℕ) → b < n → a * n + b ≡ i * n + j → P a b (slice_index (xs ++ x ∷ []) (a * n + b))
@@ -26,7 +27,8 @@ filled-push n P xs i j x so_far place below here = record { filled = λ a b lt w
         let value : slice_index (xs ++ x ∷ []) (a * n + b) ≡ x = ap (slice_index (xs ++ x ∷ [])) (e ∙ sym place) ∙ get_or-append_seam xs x [] 0 in
         subst (λ y. P a b y) (sym value) (subst (λ k. P k b x) (sym row) (subst (λ k. P i k x) (sym column) here))
 
-    at : (a b : ℕ) → b < n → (a * n + b < length xs) ⊎ (length xs ≤ a * n + b) → a * n + b < length (xs ++ x ∷ []) → P a b (entry n (xs ++ x ∷ []) a b)
+    at : (a b : ℕ) → b < n → (a * n + b < length xs) ⊎ (length xs ≤ a * n + b) → a * n + b < length (xs ++ x ∷ [])
+        → P a b (entry n (xs ++ x ∷ []) a b)
     at a b lt (inl l) within = subst (λ y. P a b y) (sym (get_or_append_left xs (x ∷ []) 0 (a * n + b) l)) (so_far.filled a b lt l)
     at a b lt (inr l) within = last a b lt (let total : length (xs ++ x ∷ []) ≡ length xs + 1 = length-append xs (x ∷ []) in omega arith)
 

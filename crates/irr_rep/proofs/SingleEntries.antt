@@ -57,7 +57,8 @@ module _ {S : Type 0} {G : Ghosts S} (n : ℕ) where
   pub singles-none : (mats : List (Mat S G)) → mats ≡ [] → SinglesSoFar 0 mats
   singles-none mats e = record { count = ap length e; single = subst (All IsSingle) (sym e) (All-nil IsSingle) }
 
-  pub singles-more : (k : ℕ) (mats after : List (Mat S G)) (m : Mat S G) → SinglesSoFar k mats → after ≡ mats ++ m ∷ [] → IsSingle m → SinglesSoFar (k + 1) after
+  pub singles-more : (k : ℕ) (mats after : List (Mat S G)) (m : Mat S G) → SinglesSoFar k mats → after ≡ mats ++ m ∷ [] → IsSingle m
+      → SinglesSoFar (k + 1) after
   singles-more k mats after m s e is = record {
     count = ap length e ∙ length-append mats (m ∷ []) ∙ ap (λ j. j + 1) s.count;
     single = subst (All IsSingle) (sym e) (All-push IsSingle mats m s.single is);

@@ -11,7 +11,8 @@ use Rattle.irr_eigen.specs.Step.{Subtable}
 use Rattle.irr_space.specs.PhaseTable.{PhaseTable, phases_over}
 use Rattle.irr_rep.specs.Subgroup.{IsSubgroup, IsRestriction}
 
-module _ {h n : ℕ} (T : PhaseTable h) (members : List ℕ) (S : PhaseTable n) (subgroup : IsSubgroup T members) (restriction : IsRestriction T members S)
+module _ {h n : ℕ} (T : PhaseTable h) (members : List ℕ) (S : PhaseTable n) (subgroup : IsSubgroup T members)
+    (restriction : IsRestriction T members S)
     (M : ℕ) (v : T.order ∣ M) (w : S.order ∣ M) where
   within : (i : Fin n) → to_nat i < length members
   within i = subst (λ k. to_nat i < k) restriction.count (to_nat-lt i)

@@ -42,10 +42,12 @@ IsRootSum-whole N (suc k) =
     (subst (IsRootSum N (1 + k) 1) (sym (whole-suc (numbers N) k)) (IsRootSum-add_same N (IsRootSum-one N) (IsRootSum-whole N k)))
 
 -- as many powers as are counted
-pub IsRootSum-counted : (N k : ℕ) (times : Fin k → ℕ) (f : Fin k → Number N) → ((a : Fin k) → IsRootSum N (times a) 1 (f a)) → IsRootSum N (count_total k times) 1 (sum (numbers N) k f)
+pub IsRootSum-counted : (N k : ℕ) (times : Fin k → ℕ) (f : Fin k → Number N) → ((a : Fin k) → IsRootSum N (times a) 1 (f a))
+    → IsRootSum N (count_total k times) 1 (sum (numbers N) k f)
 unfolding sum count_total
 IsRootSum-counted N zero times f h = IsRootSum-zero N 1 (omega arith)
-IsRootSum-counted N (suc k) times f h = IsRootSum-add_same N (h first) (IsRootSum-counted N k (λ a. times (next a)) (λ a. f (next a)) (λ a. h (next a)))
+IsRootSum-counted N (suc k) times f h = IsRootSum-add_same N (h first)
+    (IsRootSum-counted N k (λ a. times (next a)) (λ a. f (next a)) (λ a. h (next a)))
 
 whole-counted : (N k : ℕ) (times : Fin k → ℕ) → sum (numbers N) k (λ a. whole (numbers N) (times a)) ≡ whole (numbers N) (count_total k times)
 unfolding sum count_total
@@ -61,10 +63,12 @@ IsRootSum-power N z (suc j) h = IsRootSum-mul N h (IsRootSum-power N z j h)
 
 module _ (N : ℕ) (positive : 0 < N) where
   -- where the eigenvalues are powers of z, the trace is a sum of them
-  trace-eigenvalues : {d k : ℕ} (v : Matrix (numbers N) d d) (values : Fin k → Number N) → Eigenspaces v values → ((a : Fin k) → IsRootSum N 1 1 (values a)) → IsRootSum N d 1 (trace v)
+  trace-eigenvalues : {d k : ℕ} (v : Matrix (numbers N) d d) (values : Fin k → Number N) → Eigenspaces v values
+      → ((a : Fin k) → IsRootSum N 1 1 (values a)) → IsRootSum N d 1 (trace v)
   trace-eigenvalues {d} {k} v values e h =
       let all : count_total k times ≡ d = whole_inj (number_field N positive) (count_total k times) d
-      (sym (whole-counted N k times) ∙ sum-ext (numbers N) k (λ a. whole (numbers N) (times a)) (λ a. trace (e.projection a)) (λ a. sym (image a).trace-rank)
+      (sym (whole-counted N k times) ∙ sum-ext (numbers N) k (λ a. whole (numbers N) (times a)) (λ a. trace (e.projection a))
+      (λ a. sym (image a).trace-rank)
       ∙ sym (trace-total k e.projection) ∙ ap trace e.adds_up ∙ trace-unit (numbers N) d) in
       subst (λ s. IsRootSum N s 1 (trace v)) all
       (subst (IsRootSum N (count_total k times) 1) (sym (trace-shares e v)) (IsRootSum-counted N k times (λ a. trace (v · e.projection a)) part))
@@ -85,7 +89,8 @@ module _ (N : ℕ) (positive : 0 < N) where
 
   module _ {h : ℕ} (T : PhaseTable h) (divides : T.order ∣ N) {d : ℕ} (A : Representation (phases_over T N divides) d) (g : Fin h) where
     -- the power of the matrix at the end of a cycle is a number
-    cycle-power : (cycle : Cycle (phases_over T N divides) g) → matrix_power (A.at g) cycle.order ≡ scale (numbers N) (power (numbers N) cycle.number cycle.order) (unit (numbers N) d)
+    cycle-power : (cycle : Cycle (phases_over T N divides) g) → matrix_power (A.at g) cycle.order ≡ scale (numbers N)
+        (power (numbers N) cycle.number cycle.order) (unit (numbers N) d)
     unfolding lifted
     cycle-power cycle =
         ap (λ (u : Matrix (numbers N) d d). matrix_power u cycle.order) (sym (scale-one (A.at g)))
@@ -93,7 +98,8 @@ module _ (N : ℕ) (positive : 0 < N) where
         ∙ ap (lifted A) (lifted-ext cycle.phase-power cycle.returns)
         ∙ ap (scale (numbers N) (power (numbers N) cycle.number cycle.order)) A.at-start
 
-    by_cycle : (m : ℕ) (cycle : Cycle (phases_over T N divides) g) → cycle.order ≡ m → (i j : ℕ) → cycle.number ≡ root_power N i → cycle.root ≡ root_power N j → IsRootSum N d 1 (trace (A.at g))
+    by_cycle : (m : ℕ) (cycle : Cycle (phases_over T N divides) g) → cycle.order ≡ m → (i j : ℕ) → cycle.number ≡ root_power N i
+        → cycle.root ≡ root_power N j → IsRootSum N d 1 (trace (A.at g))
     by_cycle zero cycle e i j p q = absurd (let l : 0 < cycle.order = cycle.positive in omega (arith, e))
     by_cycle (suc m) cycle e i j p q =
         trace-eigenvalues (A.at g) (λ (a : Fin (suc m)). (numbers N).mul cycle.number (power (numbers N) cycle.root (to_nat a)))

@@ -4,7 +4,8 @@
 --   tries_factors, factors_tried     the exponents
 --   tries_subgroup, subgroup_tried   a list of members
 --   result_tried                     the same for what a call gives
-use Rattle.std.specs.Prelude.{ℕ, zero, suc, ◌≡◌, ◌<◌, ◌≤◌, ◌+◌, ◌%◌, List, slice_index, length, Contains, Bool, true, false, not, ◌&&◌, ◌||◌, cond, Result, Ok, Err, IfOk}
+use Rattle.std.specs.Prelude.{ℕ, zero, suc, ◌≡◌, ◌<◌, ◌≤◌, ◌+◌, ◌%◌, List, slice_index, length, Contains, Bool, true, false, not, ◌&&◌, ◌||◌, cond}
+use Rattle.std.specs.Prelude.{Result, Ok, Err, IfOk}
 use Rattle.std.specs.Int.{◌∣◌}
 use Rattle.std.proofs.Common.{sym, ◌∙◌, ap, subst, refl, inl, inr, ltb, eqb, ltb-true, eqb-true, eq-eqb, arith}
 use native.Mathlib.Nat as Nat
@@ -65,8 +66,10 @@ group_tried h xs tried =
           (all_triples-at h (λ i j k. eqb (entry h xs (entry h xs i j) k) (entry h xs i (entry h xs j k))) others.1 i j k a b c);
     }
   where
-    units : all_below h (λ i. eqb (entry h xs 0 i) i && eqb (entry h xs i 0) i) ≡ true → (i : ℕ) → i < h → (eqb (entry h xs 0 i) i ≡ true) × (eqb (entry h xs i 0) i ≡ true)
-    units e i a = and_parts (eqb (entry h xs 0 i) i) (eqb (entry h xs i 0) i) (all_below-at h (λ k. eqb (entry h xs 0 k) k && eqb (entry h xs k 0) k) e i a)
+    units : all_below h (λ i. eqb (entry h xs 0 i) i && eqb (entry h xs i 0) i) ≡ true → (i : ℕ) → i < h
+        → (eqb (entry h xs 0 i) i ≡ true) × (eqb (entry h xs i 0) i ≡ true)
+    units e i a = and_parts (eqb (entry h xs 0 i) i) (eqb (entry h xs i 0) i)
+        (all_below-at h (λ k. eqb (entry h xs 0 k) k && eqb (entry h xs k 0) k) e i a)
 
 -- p passes at some number below n
 abbrev pub some_below : ℕ → (ℕ → Bool) → Bool
@@ -123,14 +126,17 @@ factors_tried order h xs ys positive tried =
       exponent-unit = λ i a. eqb-true (entry h ys i 0) 0 (units others.0 i a).1;
       exponent_assoc = λ i j k a b c.
           eqb-true ((entry h ys i j + entry h ys (entry h xs i j) k) % order) ((entry h ys j k + entry h ys i (entry h xs j k)) % order)
-          (all_triples-at h (λ i j k. eqb ((entry h ys i j + entry h ys (entry h xs i j) k) % order) ((entry h ys j k + entry h ys i (entry h xs j k)) % order))
+          (all_triples-at h (λ i j k. eqb ((entry h ys i j + entry h ys (entry h xs i j) k) % order)
+          ((entry h ys j k + entry h ys i (entry h xs j k)) % order))
           last.0 i j k a b c);
       order_divides = λ i m a o. (orders last.1 i a m o).0;
       exponents_divided = λ i m a o. (orders last.1 i a m o).1;
     }
   where
-    units : all_below h (λ i. eqb (entry h ys 0 i) 0 && eqb (entry h ys i 0) 0) ≡ true → (i : ℕ) → i < h → (eqb (entry h ys 0 i) 0 ≡ true) × (eqb (entry h ys i 0) 0 ≡ true)
-    units e i a = and_parts (eqb (entry h ys 0 i) 0) (eqb (entry h ys i 0) 0) (all_below-at h (λ k. eqb (entry h ys 0 k) 0 && eqb (entry h ys k 0) 0) e i a)
+    units : all_below h (λ i. eqb (entry h ys 0 i) 0 && eqb (entry h ys i 0) 0) ≡ true → (i : ℕ) → i < h
+        → (eqb (entry h ys 0 i) 0 ≡ true) × (eqb (entry h ys i 0) 0 ≡ true)
+    units e i a = and_parts (eqb (entry h ys 0 i) 0) (eqb (entry h ys i 0) 0)
+        (all_below-at h (λ k. eqb (entry h ys 0 k) 0 && eqb (entry h ys k 0) 0) e i a)
 
     orders : all_below h (λ i. eqb (power_of (entry h xs) i h) 0 && all_below h (tries_order order h xs ys i)) ≡ true
         → (i : ℕ) → i < h → (m : ℕ) → IsElementOrder (entry h xs) i m → (m ∣ order) × (m ∣ exponents_along (entry h xs) (entry h ys) i m)
@@ -140,7 +146,8 @@ factors_tried order h xs ys positive tried =
         (all_below-at h (λ k. eqb (power_of (entry h xs) k h) 0 && all_below h (tries_order order h xs ys k)) e i a) in
         let small : suc n ≤ h = o.least h positive (eqb-true (power_of (entry h xs) i h) 0 here.0) in
         let both = and_parts (eqb (order % suc n) 0) (eqb (exponents_along (entry h xs) (entry h ys) i (suc n) % suc n) 0)
-        (if_true (tries_least (entry h xs) i n) _ (all_below-at h (tries_order order h xs ys i) here.1 n (omega arith)) (least-tried (entry h xs) i n o)) in (
+        (if_true (tries_least (entry h xs) i n) _ (all_below-at h (tries_order order h xs ys i) here.1 n (omega arith))
+        (least-tried (entry h xs) i n o)) in (
           Nat.dvd_of_mod-eq-zero _ (eqb-true (order % suc n) 0 both.0),
           Nat.dvd_of_mod-eq-zero _ (eqb-true (exponents_along (entry h xs) (entry h ys) i (suc n) % suc n) 0 both.1),
         )
@@ -158,7 +165,8 @@ tries_subgroup h xs members =
     && some_below (length members) (λ b. eqb (entry h xs (slice_index members a) (slice_index members b)) 0))
     && all_below (length members) (λ a. all_below (length members) (tries_members h xs members a)))
 
-pub subgroup_tried : {h : ℕ} (T : PhaseTable h) (order : ℕ) (xs ys members : List ℕ) → IsListed T order xs ys → tries_subgroup h xs members ≡ true → IsSubgroup T members
+pub subgroup_tried : {h : ℕ} (T : PhaseTable h) (order : ℕ) (xs ys members : List ℕ) → IsListed T order xs ys → tries_subgroup h xs members ≡ true
+    → IsSubgroup T members
 subgroup_tried {h} T order xs ys members listed tried =
     let all = and_parts (ltb 0 (length members) && eqb (slice_index members 0) 0) _ tried in
     let first = and_parts (ltb 0 (length members)) (eqb (slice_index members 0) 0) all.0 in
@@ -172,11 +180,13 @@ subgroup_tried {h} T order xs ys members listed tried =
       products_inside = λ i j p q.
           let found = (pairs others.1 p.0 q.0 p.1 q.1).1 in
           inside found.0 (to_nat (T.product i j)) found.1
-          (found.2 ∙ ap (λ k. entry h xs k (slice_index members q.0)) (at_number p) ∙ ap (entry h xs (to_nat i)) (at_number q) ∙ sym (listed.product-entry i j));
+          (found.2 ∙ ap (λ k. entry h xs k (slice_index members q.0)) (at_number p) ∙ ap (entry h xs (to_nat i)) (at_number q)
+          ∙ sym (listed.product-entry i j));
       opposites_inside = λ i p.
           let found = (single others.0 p.0 p.1).1 in
           inside found.0 (to_nat (T.opposite i)) found.1
-          (opposite i found.0 ((single others.0 found.0 found.1).0) (ap (λ k. entry h xs k (slice_index members found.0)) (sym (at_number p)) ∙ found.2));
+          (opposite i found.0 ((single others.0 found.0 found.1).0)
+          (ap (λ k. entry h xs k (slice_index members found.0)) (sym (at_number p)) ∙ found.2));
     }
   where
     inside : (k x : ℕ) → k < length members → slice_index members k ≡ x → Contains members x
@@ -186,34 +196,48 @@ subgroup_tried {h} T order xs ys members listed tried =
     at_number {x} p = get_or_default members p.0 0 x p.1 ∙ p.2
 
     -- the inverse is the place with which the product is the unit
-    opposite : (i : Fin h) (b : ℕ) → slice_index members b < h → entry h xs (to_nat i) (slice_index members b) ≡ 0 → slice_index members b ≡ to_nat (T.opposite i)
+    opposite : (i : Fin h) (b : ℕ) → slice_index members b < h → entry h xs (to_nat i) (slice_index members b) ≡ 0
+        → slice_index members b ≡ to_nat (T.opposite i)
     opposite i b lt e =
         let j : Fin h = from_nat h (slice_index members b) lt in
         let number : to_nat j ≡ slice_index members b = to_nat-from_nat h (slice_index members b) lt in
-        let unit : T.product i j ≡ T.start = to_nat_inj (T.product i j) T.start (listed.product-entry i j ∙ ap (entry h xs (to_nat i)) number ∙ e ∙ sym T.start_first) in
+        let unit : T.product i j ≡ T.start = to_nat_inj (T.product i j) T.start
+        (listed.product-entry i j ∙ ap (entry h xs (to_nat i)) number ∙ e ∙ sym T.start_first) in
         sym number ∙ ap to_nat (sym (T.start-product j) ∙ ap (λ k. T.product k j) (sym (T.opposite-product i)) ∙ T.product_assoc (T.opposite i) i j
         ∙ ap (T.product (T.opposite i)) unit ∙ T.product-start (T.opposite i))
 
     single : all_below (length members) (λ a. ltb (slice_index members a) h
         && some_below (length members) (λ b. eqb (entry h xs (slice_index members a) (slice_index members b)) 0)) ≡ true
-        → (a : ℕ) → a < length members → (slice_index members a < h) × ((b : ℕ) × (b < length members) × (entry h xs (slice_index members a) (slice_index members b) ≡ 0))
+        → (a : ℕ) → a < length members → (slice_index members a < h) × ((b : ℕ) × (b < length members) × (entry h xs (slice_index members a)
+        (slice_index members b) ≡ 0))
     single e a lt =
         let here = and_parts (ltb (slice_index members a) h) _ (all_below-at (length members) (λ a. ltb (slice_index members a) h
         && some_below (length members) (λ b. eqb (entry h xs (slice_index members a) (slice_index members b)) 0)) e a lt) in
-        let found = some_below-at (length members) (λ b. eqb (entry h xs (slice_index members a) (slice_index members b)) 0) here.1 in
-        (ltb-true (slice_index members a) h here.0, (found.0, found.1, eqb-true (entry h xs (slice_index members a) (slice_index members found.0)) 0 found.2))
+        let found = some_below-at (length members) (λ b. eqb (entry h xs (slice_index members a) (slice_index members b)) 0) here.1 in (
+          ltb-true (slice_index members a) h here.0,
+          (
+            found.0,
+            found.1,
+            eqb-true
+                (entry h xs (slice_index members a) (slice_index members found.0)) 0 found.2,
+          ),
+        )
 
     pairs : all_below (length members) (λ a. all_below (length members) (tries_members h xs members a)) ≡ true
         → (a b : ℕ) → a < length members → b < length members → (slice_index members a ≡ slice_index members b → a ≡ b)
         × ((k : ℕ) × (k < length members) × (slice_index members k ≡ entry h xs (slice_index members a) (slice_index members b)))
     pairs e a b p q =
-        let here = and_parts (cond (eqb (slice_index members a) (slice_index members b)) (eqb a b) true) _ (all_pairs-at (length members) (tries_members h xs members) e a b p q) in
-        let found = some_below-at (length members) (λ k. eqb (slice_index members k) (entry h xs (slice_index members a) (slice_index members b))) here.1 in (
-          (λ d. eqb-true a b (if_true (eqb (slice_index members a) (slice_index members b)) (eqb a b) here.0 (eq-eqb (slice_index members a) (slice_index members b) d))),
+        let here = and_parts (cond (eqb (slice_index members a) (slice_index members b)) (eqb a b) true) _
+        (all_pairs-at (length members) (tries_members h xs members) e a b p q) in
+        let found = some_below-at (length members) (λ k. eqb (slice_index members k)
+        (entry h xs (slice_index members a) (slice_index members b))) here.1 in (
+          (λ d. eqb-true a b (if_true (eqb (slice_index members a) (slice_index members b)) (eqb a b) here.0
+              (eq-eqb (slice_index members a) (slice_index members b) d))),
           (found.0, found.1, eqb-true (slice_index members found.0) (entry h xs (slice_index members a) (slice_index members b)) found.2),
         )
 
-pub result_tried : {E : Type 0} (r : Result Twisted E) (order h : ℕ) (xs ys zs members : List ℕ) → IfOk r (λ t. IsListed (phase_table t) order xs ys) → IfOk r (λ t. operation_places t ≡ zs)
+pub result_tried : {E : Type 0} (r : Result Twisted E) (order h : ℕ) (xs ys zs members : List ℕ) → IfOk r (λ t. IsListed (phase_table t) order xs ys)
+    → IfOk r (λ t. operation_places t ≡ zs)
     → length zs ≡ h → tries_subgroup h xs members ≡ true → IfOk r (λ t. IsSubgroup (phase_table t) members)
 result_tried (Ok t) order h xs ys zs members listed places count tried =
     let total : place_count t ≡ h = t.places.ok.0 ∙ ap length places ∙ count in

@@ -11,7 +11,8 @@ use Rattle.std.proofs.lemmas.Bool.{cases_lt}
 use Rattle.std.proofs.lemmas.List.{get_or-take, get_or-drop, get_or_append_left}
 use Rattle.irr_rep.specs.Table.{IsGroup, HasInverses, AreInverses, AreUnitColumns, entry}
 
-pub inverse-of_columns : (h : ℕ) (product : ℕ → ℕ → ℕ) (columns : List ℕ) → IsGroup h product → HasInverses h product → AreUnitColumns h product columns
+pub inverse-of_columns : (h : ℕ) (product : ℕ → ℕ → ℕ) (columns : List ℕ) → IsGroup h product → HasInverses h product
+    → AreUnitColumns h product columns
     → AreInverses h product (slice_index columns)
 inverse-of_columns h product columns group inverses unit = record {
   inverse_below = unit.column_below;

@@ -35,7 +35,8 @@ module _ {h : ℕ} (P : Fin h → Type 0) where
   unfolding IsFirstFailure
   row_right r = r
 
-pub failure-map : {h : ℕ} (P Q : Fin h → Type 0) (r : Option ℕ) → ((j : Fin h) → P j → Q j) → ((j : Fin h) → Q j → P j) → IsFirstFailure P r → IsFirstFailure Q r
+pub failure-map : {h : ℕ} (P Q : Fin h → Type 0) (r : Option ℕ) → ((j : Fin h) → P j → Q j) → ((j : Fin h) → Q j → P j) → IsFirstFailure P r
+    → IsFirstFailure Q r
 unfolding IsFirstFailure
 failure-map P Q None f g all = λ j. f j (all j)
 failure-map P Q (Some k) f g w = (w.0, w.1, (λ q. w.2 (g w.0 q)), (λ i l. f i (w.3 i l)))
@@ -49,7 +50,8 @@ module _ {S : Type 0} {G : Ghosts S} {h : ℕ} (T : PhaseTable h) (n : ℕ) (v :
   unfolding IsFirstDefect
   right_all e r = record { at-start = e; at-product = r }
 
-  pub wrong_pair : matrix_at n d mats T.start ≡ unit (numbers n) d → (a : Fin h) (i j : ℕ) → to_nat a ≡ i → IsFirstFailure (Multiplies T n v d mats a) (Some j)
+  pub wrong_pair : matrix_at n d mats T.start ≡ unit (numbers n) d → (a : Fin h) (i j : ℕ) → to_nat a ≡ i
+      → IsFirstFailure (Multiplies T n v d mats a) (Some j)
       → ((p q : Fin h) → to_nat p < i → Multiplies T n v d mats p q) → IsFirstDefect T n v d mats (Some (Product i j))
   unfolding IsFirstDefect IsFirstFailure
   wrong_pair e a i j is w before = record {

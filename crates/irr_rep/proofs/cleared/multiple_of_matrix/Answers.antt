@@ -10,7 +10,8 @@ use Rattle.irr_rep.proofs.CommonDenominators.{divisor_within, root_sum_of_power}
 use Rattle.irr_rep.proofs.MatrixForms.{fit_of_multiple, multiple_fits, scaled}
 use Rattle.irr_rep.proofs.cleared.multiple_of_matrix.Goals as goal
 
-if_ok_all : {A E : Type 0} (r : Result A E) (P Q R V W : A → Type 0) → ((x : A) → P x → Q x → R x → V x → W x) → IfOk r P → IfOk r Q → IfOk r R → IfOk r V → IfOk r W
+if_ok_all : {A E : Type 0} (r : Result A E) (P Q R V W : A → Type 0) → ((x : A) → P x → Q x → R x → V x → W x) → IfOk r P → IfOk r Q → IfOk r R
+    → IfOk r V → IfOk r W
 if_ok_all (Ok x) P Q R V W f p q s v = f x p q s v
 if_ok_all (Err e) P Q R V W f p q s v = p
 

@@ -14,7 +14,8 @@ use Rattle.irr_rep.proofs.CommonDenominators.{root_sum_of_power}
 use Rattle.irr_rep.proofs.MatrixForms.{fit_of_multiple, item-matrix, multiple_fits, scaled}
 use Rattle.irr_rep.proofs.defects.expected_product.Goals as goal
 
-if_ok_all : {A E : Type 0} (r : Result A E) (P Q R V W : A → Type 0) → ((x : A) → P x → Q x → R x → V x → W x) → IfOk r P → IfOk r Q → IfOk r R → IfOk r V → IfOk r W
+if_ok_all : {A E : Type 0} (r : Result A E) (P Q R V W : A → Type 0) → ((x : A) → P x → Q x → R x → V x → W x) → IfOk r P → IfOk r Q → IfOk r R
+    → IfOk r V → IfOk r W
 if_ok_all (Ok x) P Q R V W f p q s v = f x p q s v
 if_ok_all (Err e) P Q R V W f p q s v = p
 
@@ -24,8 +25,10 @@ phase_exponent-requires-clause-divides g c =
     let p = c.requires.checkable in
     let l : c.table.result < length f.mats.items = subst (λ k. c.table.result < k) (sym p.limits.shape.count) c.table.ensures.within in
     let i = from_nat (place_count c.args.t.now) c.table.result c.table.ensures.within in
-    let m = item-matrix p.n f.dim f.mats.items c.table.result c.index-matrix.result.now l c.index-matrix.ensures p.limits.shape i (to_nat-from_nat (place_count c.args.t.now) c.table.result c.table.ensures.within) in
-    subst (λ u. (phase_table c.args.t.now).order ∣ u) (sym (c.n.ensures.value ∙ c.in_ok-order.ensures ∙ c.order.ensures ∙ c.at.ensures.order ∙ m.order)) p.divides
+    let m = item-matrix p.n f.dim f.mats.items c.table.result c.index-matrix.result.now l c.index-matrix.ensures p.limits.shape i
+    (to_nat-from_nat (place_count c.args.t.now) c.table.result c.table.ensures.within) in
+    subst (λ u. (phase_table c.args.t.now).order ∣ u) (sym
+    (c.n.ensures.value ∙ c.in_ok-order.ensures ∙ c.order.ensures ∙ c.at.ensures.order ∙ m.order)) p.divides
 
 pub scale-requires-clause-sizes : goal.scale-requires-clause-sizes
 scale-requires-clause-sizes g c =
@@ -34,7 +37,8 @@ scale-requires-clause-sizes g c =
     let p = c.requires.checkable in
     let l : c.table.result < length f.mats.items = subst (λ k. c.table.result < k) (sym p.limits.shape.count) c.table.ensures.within in
     let i = from_nat (place_count c.args.t.now) c.table.result c.table.ensures.within in
-    let m = item-matrix p.n f.dim f.mats.items c.table.result c.index-matrix.result.now l c.index-matrix.ensures p.limits.shape i (to_nat-from_nat (place_count c.args.t.now) c.table.result c.table.ensures.within) in
+    let m = item-matrix p.n f.dim f.mats.items c.table.result c.index-matrix.result.now l c.index-matrix.ensures p.limits.shape i
+    (to_nat-from_nat (place_count c.args.t.now) c.table.result c.table.ensures.within) in
     let order : c.in_ok-order.order.n ≡ p.n = c.in_ok-order.ensures ∙ c.order.ensures ∙ c.at.ensures.order ∙ m.order in
     let q = c.args.number in
     let root : IsRootSum p.n q 1 (value p.n c.in_ok-phase.phase) = subst (λ u. IsRootSum u q 1 (value u c.in_ok-phase.phase)) order
@@ -52,9 +56,11 @@ returns g c =
     if_ok_all c.scale.result _ _ _ _ _ (λ z r k o v p a b ea eb.
     let l : c.table.result < length f.mats.items = subst (λ k. c.table.result < k) (sym p.limits.shape.count) c.table.ensures.within in
     let i = T.product a b in
-    let m = item-matrix p.n f.dim f.mats.items c.table.result c.index-matrix.result.now l c.index-matrix.ensures p.limits.shape i (sym (c.table.ensures.product a b ea eb)) in
+    let m = item-matrix p.n f.dim f.mats.items c.table.result c.index-matrix.result.now l c.index-matrix.ensures p.limits.shape i
+    (sym (c.table.ensures.product a b ea eb)) in
     let order : c.in_ok-order.order.n ≡ p.n = c.in_ok-order.ensures ∙ c.order.ensures ∙ c.at.ensures.order ∙ m.order in
-    scaled p.n f.dim (matrix_at p.n f.dim f.mats.items i) c.index-matrix.result.now m c.in_ok-phase.phase ((numbers p.n).mul (whole (numbers p.n) c.args.number) ((phases_over T p.n p.divides).phase a b))
+    scaled p.n f.dim (matrix_at p.n f.dim f.mats.items i) c.index-matrix.result.now m c.in_ok-phase.phase
+    ((numbers p.n).mul (whole (numbers p.n) c.args.number) ((phases_over T p.n p.divides).phase a b))
     (subst (λ u. value u c.in_ok-phase.phase ≡ (numbers u).mul (whole (numbers u) c.args.number) (root_power u c.phase_exponent.result)) order
     c.in_ok-phase.ensures.value
     ∙ ap ((numbers p.n).mul (whole (numbers p.n) c.args.number))

@@ -26,7 +26,8 @@ equal-requires-clause-sizes g c =
       order = c.in_ok-unit.ensures.order ∙ order;
       value = subst (λ u. matrix_of value u f.dim f.dim c.in_ok-unit.unit.entries.items ≡ unit (numbers u) f.dim) order c.in_ok-unit.ensures.value;
     })
-    (fit_of_unit p.n f.dim p.denominator (subst (λ u. u ≤ 12000) order c.in_ok-order.order.limited) p.limits.few p.limits.limited (matrix_at p.n f.dim f.mats.items T.start) (p.limits.within T.start))
+    (fit_of_unit p.n f.dim p.denominator (subst (λ u. u ≤ 12000) order c.in_ok-order.order.limited) p.limits.few p.limits.limited
+    (matrix_at p.n f.dim f.mats.items T.start) (p.limits.within T.start))
 
 pub returns : goal.returns
 returns g c p =
@@ -43,6 +44,8 @@ returns g c p =
       order = c.in_ok-unit.ensures.order ∙ order;
       value = subst (λ u. matrix_of value u f.dim f.dim c.in_ok-unit.unit.entries.items ≡ unit (numbers u) f.dim) order c.in_ok-unit.ensures.value;
     } in (
-      λ t. same-to p.n f.dim (matrix_at p.n f.dim f.mats.items T.start) (unit (numbers p.n) f.dim) first c.in_ok-unit.unit m u (c.equal.ensures.0 t).2,
-      λ e. c.equal.ensures.1 (same-from p.n f.dim (matrix_at p.n f.dim f.mats.items T.start) (unit (numbers p.n) f.dim) first c.in_ok-unit.unit m u e),
+      λ t. same-to p.n f.dim (matrix_at p.n f.dim f.mats.items T.start) (unit (numbers p.n) f.dim) first c.in_ok-unit.unit m u
+          (c.equal.ensures.0 t).2,
+      λ e. c.equal.ensures.1 (same-from p.n f.dim (matrix_at p.n f.dim f.mats.items T.start)
+          (unit (numbers p.n) f.dim) first c.in_ok-unit.unit m u e),
     )

@@ -12,11 +12,15 @@ pub loop-i-preserved : goal.loop-i-preserved
 loop-i-preserved c =
     let size = c.args.size in
     let x = c.position.result in
-    let below : x < size = subst (λ k. x < k) (row-length size c.loop-i.i c.args.products.now c.loop-i-test.true c.requires.full) c.position.ensures.within in
-    let longer : length c.push.new.self.items ≡ length c.loop-i.columns.items + 1 = ap length c.in_ok-push.ensures.items ∙ length-append c.loop-i.columns.items (x ∷ []) in
+    let below : x < size = subst (λ k. x < k)
+    (row-length size c.loop-i.i c.args.products.now c.loop-i-test.true c.requires.full) c.position.ensures.within in
+    let longer : length c.push.new.self.items ≡ length c.loop-i.columns.items + 1 = ap length c.in_ok-push.ensures.items
+    ∙ length-append c.loop-i.columns.items (x ∷ []) in
     record {
       count = omega (arith, longer, c.loop-i.invariant.count);
-      columns = subst (λ xs. (k : ℕ) → k < c.loop-i.i + 1 → (slice_index xs k < size) × (entry size c.args.products.now k (slice_index xs k) ≡ 0)) (sym c.in_ok-push.ensures.items)
-          (columns-push size (entry size c.args.products.now) c.loop-i.columns.items c.loop-i.i x c.loop-i.invariant.count c.loop-i.invariant.columns below
+      columns = subst (λ xs. (k : ℕ) → k < c.loop-i.i + 1 → (slice_index xs k < size) × (entry size c.args.products.now k (slice_index xs k) ≡ 0))
+          (sym c.in_ok-push.ensures.items)
+          (columns-push size (entry size c.args.products.now) c.loop-i.columns.items c.loop-i.i x c.loop-i.invariant.count
+          c.loop-i.invariant.columns below
           (sym (row-entry size c.loop-i.i x c.args.products.now below) ∙ c.position.ensures.value));
     }

@@ -12,7 +12,8 @@ unit_columns-requires-clause-inverses c =
 
 pub invariant_of-result : goal.invariant_of-result
 invariant_of-result c =
-    let columns = subst (λ xs. AreUnitColumns (vec_len c.args.place) (entry (vec_len c.args.place) xs) c.in_ok-inverses.inverses.items) c.as_slice.ensures.value
+    let columns = subst (λ xs. AreUnitColumns (vec_len c.args.place)
+    (entry (vec_len c.args.place) xs) c.in_ok-inverses.inverses.items) c.as_slice.ensures.value
     (subst (λ k. AreUnitColumns k (entry k c.as_slice.result.now) c.in_ok-inverses.inverses.items) c.len.ensures c.in_ok-inverses.ensures) in
     record {
       order_positive = c.requires.order_positive;

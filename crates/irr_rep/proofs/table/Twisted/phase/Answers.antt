@@ -7,7 +7,9 @@ use Rattle.irr_rep.proofs.table.Twisted.phase.Goals as goal
 pub returns-clause-within : goal.returns-clause-within
 returns-clause-within c =
     let t = c.args.self.now in
-    subst (λ k. c.index-2.result.now < k) (sym (order-phase_table t)) (subst (λ k. k < t.order) (sym (entry_read t.exponents.items (place_count t) c.args.i c.args.j c.index.result c.index-2.result.now t.exponents.len
+    subst (λ k. c.index-2.result.now < k) (sym (order-phase_table t))
+    (subst (λ k. k < t.order) (sym (entry_read t.exponents.items
+    (place_count t) c.args.i c.args.j c.index.result c.index-2.result.now t.exponents.len
     c.index-2.ensures c.index.ensures.within t.full_exponents t.exponents.ok.0 c.index.ensures.place))
     (t.factors.exponent_below c.args.i c.args.j c.requires.row c.requires.column))
 

@@ -21,7 +21,8 @@ pub loop-j-preserved : goal.loop-j-preserved
 loop-j-preserved c =
     let members = c.args.members.now in
     let x = c.position.result in
-    let longer : length c.push.new.self.items ≡ length c.loop-j.products.items + 1 = ap length c.in_ok-push.ensures.items ∙ length-append c.loop-j.products.items (x ∷ []) in
+    let longer : length c.push.new.self.items ≡ length c.loop-j.products.items + 1 = ap length c.in_ok-push.ensures.items
+    ∙ length-append c.loop-j.products.items (x ∷ []) in
     record {
       count = omega (arith, longer, c.loop-j.invariant.count);
       rows = subst (FilledRows (length members) (IsMemberProduct c.args.self.now members)) (sym c.in_ok-push.ensures.items)
@@ -29,7 +30,8 @@ loop-j-preserved c =
           c.loop-j.invariant.rows c.loop-j.invariant.count c.loop-j-test.true (
             c.position.ensures.within,
             c.position.ensures.value
-                ∙ product_of_members c.args.self.now members c.requires c.loop-i.i-index c.loop-j.j-index c.table.result c.loop-i-test.true c.loop-j-test.true c.table.ensures.product,
+                ∙ product_of_members c.args.self.now members c.requires c.loop-i.i-index c.loop-j.j-index c.table.result c.loop-i-test.true
+                c.loop-j-test.true c.table.ensures.product,
           ));
     }
 

@@ -8,7 +8,8 @@ use Rattle.irr_rep.proofs.table.Twisted.restrict.Goals as goal
 
 -- there are as many places as members
 count : (c : goal.In_ok-places) → vec_len c.in_ok-places.places ≡ length c.args.members.now
-count c = c.in_ok-places.places.ok.0 ∙ ap length c.in_ok-places.ensures ∙ length-map c.args.members.now (slice_index (operation_places c.args.self.now))
+count c = c.in_ok-places.places.ok.0 ∙ ap length c.in_ok-places.ensures
+    ∙ length-map c.args.members.now (slice_index (operation_places c.args.self.now))
 
 pub new-requires-clause-places_within : goal.new-requires-clause-places_within
 new-requires-clause-places_within c = omega (arith, count c, members-le c.args.self.now c.args.members.now c.requires, c.args.self.now.places_within)

@@ -7,7 +7,8 @@ use Rattle.irr_rep.proofs.table.Twisted.table.Goals as goal
 pub returns-clause-within : goal.returns-clause-within
 returns-clause-within c =
     let t = c.args.self.now in
-    subst (λ k. k < place_count t) (sym (entry_read t.products.items (place_count t) c.args.i c.args.j c.index.result c.index-2.result.now t.products.len
+    subst (λ k. k < place_count t) (sym (entry_read t.products.items
+    (place_count t) c.args.i c.args.j c.index.result c.index-2.result.now t.products.len
     c.index-2.ensures c.index.ensures.within t.full_products t.products.ok.0 c.index.ensures.place))
     (t.group.product_below c.args.i c.args.j c.requires.row c.requires.column)
 

@@ -1,7 +1,8 @@
 -- The table is tried.
 use Rattle.std.proofs.Common.{ap, ap₂, [], ◌∷◌, length, arith}
 use Rattle.irr_rep.specs.Table.{exponents_along, power_of}
-use Rattle.irr_rep.proofs.Trials.{factors_tried, group_tried, inverses_tried, result_tried, tries_factors, tries_group, tries_inverses, tries_subgroup}
+use Rattle.irr_rep.proofs.Trials.{factors_tried, group_tried, inverses_tried, result_tried, tries_factors, tries_group, tries_inverses}
+use Rattle.irr_rep.proofs.Trials.{tries_subgroup}
 use Rattle.irr_rep.proofs.table.tests.three_screw_axes.Goals as goal
 
 pub new-requires-clause-group : goal.new-requires-clause-group
