@@ -5,14 +5,14 @@
 --   reduced_numbers, reduced_unimodular   what is asked of generators
 --   reduced_group           both lists generate one group
 --   reduced_accepted, reduced_refused     and pass the same limits
-use Rattle.std.proofs.Common.{◌≡◌, ◌↔◌, sym, ◌∙◌, ap, subst, refl, true, false, Bool, not, ℕ, ℤ, ◌<◌, ◌≤◌, ◌+◌, ◌^◌, ◌&&◌, inl, inr, List, [], ◌∷◌, ◌++◌, length, get_or, map, unsigned_abs, arith, true≢false, int_eq, nat_eq}
-use Rattle.std.specs.List.{All, Contains, HoldsAt, list_any}
+use Rattle.std.proofs.Common.{◌≡◌, ◌↔◌, sym, ◌∙◌, ap, subst, refl, true, false, Bool, ℕ, ℤ, ◌<◌, ◌+◌, ◌^◌, ◌&&◌, inl, inr, List, [], ◌∷◌, ◌++◌, length, get_or, map, unsigned_abs, arith, true≢false, int_eq, nat_eq}
+use Rattle.std.specs.List.{All, HoldsAt, list_any}
 use Rattle.std.specs.Int.{◌∣◌}
 use Rattle.std.specs.Cmp.Lexicographic.{pointwise}
 use Rattle.std.proofs.lemmas.Slice.Eq.{slice_eq-Decides}
 use Rattle.std.proofs.lemmas.Bool.Decides.{Decides-eqb, Decides-int_eq}
 use Rattle.indexmap.proofs.CallerLemmas.{Contains-list_any}
-use Rattle.std.proofs.lemmas.List.{length-map, get_or-map, get_or_default, get_or_append_left, get_or_push, length_push, length-append}
+use Rattle.std.proofs.lemmas.List.{length-map, get_or-map, get_or_default, get_or_append_left, get_or_push, length_push}
 use Rattle.std.proofs.lemmas.List.Elements.{All-push, All-nil}
 use Rattle.std.proofs.lemmas.Bool.{cases_lt}
 use Rattle.irr_algebra.specs.Matrix.{◌⊖◌}

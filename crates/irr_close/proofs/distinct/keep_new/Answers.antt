@@ -1,4 +1,4 @@
-use Rattle.std.proofs.Common.{◌≡◌, sym, ◌∙◌, ap, subst, not, inl, refl, true, false, Bool, map}
+use Rattle.std.proofs.Common.{◌≡◌, sym, ◌∙◌, subst, not, inl, refl, true, false, Bool}
 use Rattle.std.specs.List.{list_any}
 use Rattle.irr_close.specs.Distinct.{line}
 use Rattle.irr_close.proofs.Reduction.{same_line, found_line}

@@ -1,4 +1,4 @@
-use Rattle.std.proofs.Common.{◌≤◌, ◌<◌, ◌^◌, arith}
+use Rattle.std.proofs.Common.{arith}
 use Rattle.irr_close.proofs.Denominators.{small_numerators}
 use Rattle.irr_close.proofs.distinct.reduced.Goals as goal
 

@@ -1,5 +1,4 @@
-use Rattle.std.proofs.Common.{◌≡◌, sym, subst, length, unsigned_abs, rules}
-use Rattle.irr_space.specs.Operation.{Operation}
+use Rattle.std.proofs.Common.{sym, subst, length, rules}
 use Rattle.irr_close.specs.Distinct.{AreReduced}
 use Rattle.irr_close.specs.StandsFor.{IsRefusal}
 use Rattle.irr_close.proofs.Reduction.{reduced_numbers, reduced_unimodular, reduced_group, reduced_accepted, reduced_refused}
