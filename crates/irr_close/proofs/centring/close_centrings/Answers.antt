@@ -46,8 +46,8 @@ gather-requires-in-loop-op-clause-denominator c = over_kept c.args.generators.no
     (c.requires.kept c.loop-op.op-index c.op-item.result c.loop-op-test.true))
 
 pub gather-requires-in-loop-op-clause-rotations : goal.gather-requires-in-loop-op-clause-rotations
-gather-requires-in-loop-op-clause-rotations
-    c = subst (λ (g : Op). All (λ s. HasRotation c.args.kept.now ((operation g).rotation · (operation s).rotation)) c.args.kept.now)
+gather-requires-in-loop-op-clause-rotations c =
+    subst (λ (g : Op). All (λ s. HasRotation c.args.kept.now ((operation g).rotation · (operation s).rotation)) c.args.kept.now)
     (sym c.op-item.is) (c.requires.products c.loop-op.op-index c.op-item.result c.loop-op-test.true)
 
 pub returns-in_err-gather-2-clause-refused : goal.returns-in_err-gather-2-clause-refused

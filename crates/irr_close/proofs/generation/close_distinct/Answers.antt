@@ -76,8 +76,8 @@ close_centrings-requires-clause-kept c = subst (All (IsKept c.args.generators.no
     c.in_ok-ops.ensures.partial c.in_ok-ops.ensures.products)
 
 pub close_centrings-requires-clause-rotations : goal.close_centrings-requires-clause-rotations
-close_centrings-requires-clause-rotations
-    c = subst (λ xs. HoldsAt (λ g. All (λ s. HasRotation xs ((operation g).rotation · (operation s).rotation)) c.args.generators.now) xs 0)
+close_centrings-requires-clause-rotations c =
+    subst (λ xs. HoldsAt (λ g. All (λ s. HasRotation xs ((operation g).rotation · (operation s).rotation)) c.args.generators.now) xs 0)
     (sym c.deref-3.ensures.value)
     (kept_generators c.args.generators.now c.deref-2.result.now c.in_ok-ops.ops.items (are_invertible c.args.generators.now c.requires.unimodular)
     (subst (λ xs. AreSeeds c.args.generators.now xs (length c.args.generators.now)) (sym c.deref-2.ensures.value) c.in_ok-seeds.ensures.seeds)
