@@ -8,10 +8,12 @@ use Rattle.irr_space.specs.CanonicalOperation.{IsCanonicalOperation, IsNumbering
 use Rattle.irr_rat.specs.declared.vec3.Vec3.{Vec3}
 use Rattle.irr_kvec.specs.Centrings.{AreCentrings}
 
-pub canonical_along : (G H : Operation → Type 0) → ((g : Operation) → G g ↔ H g) → (g : Operation) → IsCanonicalOperation G g → IsCanonicalOperation H g
+pub canonical_along : (G H : Operation → Type 0) → ((g : Operation) → G g ↔ H g) → (g : Operation) → IsCanonicalOperation G g
+    → IsCanonicalOperation H g
 canonical_along G H same g c = record { member = (same g).0 c.member; in_cell = c.in_cell; least = λ h m. c.least h ((same h).1 m) }
 
-pub numbering_along : (G H : Operation → Type 0) → ((g : Operation) → G g ↔ H g) → (h : ℕ) (ops : Fin h → Operation) → IsNumbering G (λ _. Unit {0}) ops → IsNumbering H (λ _. Unit {0}) ops
+pub numbering_along : (G H : Operation → Type 0) → ((g : Operation) → G g ↔ H g) → (h : ℕ) (ops : Fin h → Operation)
+    → IsNumbering G (λ _. Unit {0}) ops → IsNumbering H (λ _. Unit {0}) ops
 numbering_along G H same h ops n = record {
   canonical = λ i. canonical_along G H same (ops i) (n.canonical i);
   member = λ i. tt;
@@ -27,4 +29,5 @@ centrings_along G H same cs c = record {
 }
 
 pub exponent_along : (G H : Operation → Type 0) → ((g : Operation) → G g ↔ H g) → (n : ℕ) → IsExponent G n → IsExponent H n
-exponent_along G H same n e = record { positive = e.positive; power = λ g h. e.power g ((same g).1 h); least = λ k p all. e.least k p (λ g m. all g ((same g).0 m)) }
+exponent_along G H same n e =
+    record { positive = e.positive; power = λ g h. e.power g ((same g).1 h); least = λ k p all. e.least k p (λ g m. all g ((same g).0 m)) }

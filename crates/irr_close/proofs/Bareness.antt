@@ -57,27 +57,38 @@ bare_small ops bare n b = record {
   multiple = λ k d l. subst (λ n. n ∣ 1) (sym (b.bare_all k d l).denominator) (Nat.dvd_refl 1);
 }
 
-few_bare : (gs seeds bare : List Op) → AreBare seeds bare (length seeds) → All (IsOneOf gs) seeds → HasFewRotations (operations gs) → HasFewRotations (operations bare)
+few_bare : (gs seeds bare : List Op) → AreBare seeds bare (length seeds) → All (IsOneOf gs) seeds → HasFewRotations (operations gs)
+    → HasFewRotations (operations bare)
 few_bare gs seeds bare b from few = few_along (operations bare) (operations gs) (λ s m. found bare b s m) few
   where
-    found : (xs : List Op) → AreBare seeds xs (length seeds) → (s : Operation) → Contains (operations xs) s → HasGeneratedRotation (operations gs) s.rotation
+    found : (xs : List Op) → AreBare seeds xs (length seeds) → (s : Operation) → Contains (operations xs) s
+        → HasGeneratedRotation (operations gs) s.rotation
     found [] c s m = absurd (let l : m.0 < 0 = m.1 in omega arith)
     found (x ∷ xs) c s m = let p = contained_place (x ∷ xs) s x m in
-        let l : m.0 < length seeds = (let e = c.long in let q = p.0 in omega arith) in
-        (operation (get_or seeds m.0 x), seed_generated gs (get_or seeds m.0 x) (from m.0 x l), sym (c.same m.0 l x x) ∙ ap (λ (g : Operation). g.rotation) p.1)
+        let l : m.0 < length seeds = (let e = c.long in let q = p.0 in omega arith) in (
+          operation (get_or seeds m.0 x),
+          seed_generated gs (get_or seeds m.0 x) (from m.0 x l),
+          sym (c.same m.0 l x x)
+              ∙ ap (λ (g : Operation). g.rotation) p.1,
+        )
 
-bare_seeded : (gs seeds bare : List Op) → AreBare seeds bare (length seeds) → All (λ s. HasRotation seeds (operation s).rotation) gs → All (λ s. HasRotation bare (operation s).rotation) gs
-bare_seeded gs seeds bare b all k d l = let h = all k d l in (h.0, (let e = b.long in let m : h.0 < length seeds = h.1 in omega arith), λ f. b.same h.0 h.1 f f ∙ h.2 f)
+bare_seeded : (gs seeds bare : List Op) → AreBare seeds bare (length seeds) → All (λ s. HasRotation seeds (operation s).rotation) gs
+    → All (λ s. HasRotation bare (operation s).rotation) gs
+bare_seeded gs seeds bare b all k d l = let h = all k d l in
+    (h.0, (let e = b.long in let m : h.0 < length seeds = h.1 in omega arith), λ f. b.same h.0 h.1 f f ∙ h.2 f)
 
-pub bare_refused : (gs seeds bare : List Op) (e : CloseError) → AreBare seeds bare (length seeds) → All (IsOneOf gs) seeds → IsClosingRefusal bare e → IsRefusal gs e
+pub bare_refused : (gs seeds bare : List Op) (e : CloseError) → AreBare seeds bare (length seeds) → All (IsOneOf gs) seeds → IsClosingRefusal bare e
+    → IsRefusal gs e
 bare_refused gs seeds bare Rotations b from h = λ few. h (few_bare gs seeds bare b from few)
 bare_refused gs seeds bare Denominator b from h = absurd h
 bare_refused gs seeds bare Centrings b from h = absurd h
 bare_refused gs seeds bare Memory b from h = h
 
-pub bare_few : (gs seeds bare kept : List Op) → AreInvertible gs → AreSeeds gs seeds (length gs) → AreBare seeds bare (length seeds) → IsPartial bare kept
+pub bare_few : (gs seeds bare kept : List Op) → AreInvertible gs → AreSeeds gs seeds (length gs) → AreBare seeds bare (length seeds)
+    → IsPartial bare kept
     → All (λ g. HasProducts kept (operation g).rotation bare (length bare)) kept → HasFewRotations (operations gs)
-bare_few gs seeds bare kept inv s b partial products = few_kept gs bare kept inv (bare_seeded gs seeds bare b (seeded_all gs seeds s)) partial products (first_of kept partial.nonempty)
+bare_few gs seeds bare kept inv s b partial products = few_kept gs bare kept inv (bare_seeded gs seeds bare b (seeded_all gs seeds s)) partial
+    products (first_of kept partial.nonempty)
 
 pub seeds_refusal : (gs seeds : List Op) (e : CloseError) → All (IsOneOf gs) seeds → IsClosingRefusal seeds e → IsRefusal gs e
 seeds_refusal gs seeds Rotations from h = λ few. h (few_of_seeds gs seeds from few)
@@ -98,12 +109,15 @@ pub centrings_refusal : (gs seeds kept : List Op) (e : CloseError) → AreInvert
     → All (λ g. HasProducts kept (operation g).rotation seeds (length seeds)) kept → HasSmallDenominator gs → IsLatticeRefusal gs e → IsRefusal gs e
 centrings_refusal gs seeds kept Rotations inv s partial products small h = absurd h
 centrings_refusal gs seeds kept Denominator inv s partial products small h = absurd h
-centrings_refusal gs seeds kept Centrings inv s partial products small h = (few_kept gs seeds kept inv (seeded_all gs seeds s) partial products (first_of kept partial.nonempty), small, h)
+centrings_refusal gs seeds kept Centrings inv s partial products small h =
+    (few_kept gs seeds kept inv (seeded_all gs seeds s) partial products (first_of kept partial.nonempty), small, h)
 centrings_refusal gs seeds kept Memory inv s partial products small h = h
 
 pub group_stands : (gs seeds kept : List Op) (cs : List Vec3) → AreInvertible gs → AreSeeds gs seeds (length gs) → IsPartial seeds kept
-    → All (λ g. HasProducts kept (operation g).rotation seeds (length seeds)) kept → IsPartialLattice gs cs → IsSettled gs kept cs (length cs) → (g : Operation) → StandFor kept cs g ↔ Generated (operations gs) g
-group_stands gs seeds kept cs inv s partial products lattice settled g = stands_for_generated gs seeds kept cs inv partial lattice settled (first_of kept partial.nonempty) (first_of cs lattice.nonempty)
+    → All (λ g. HasProducts kept (operation g).rotation seeds (length seeds)) kept → IsPartialLattice gs cs → IsSettled gs kept cs (length cs)
+    → (g : Operation) → StandFor kept cs g ↔ Generated (operations gs) g
+group_stands gs seeds kept cs inv s partial products lattice settled g = stands_for_generated gs seeds kept cs inv partial lattice settled
+    (first_of kept partial.nonempty) (first_of cs lattice.nonempty)
     (λ k d l. (kept_all gs seeds kept inv s partial products k d l).generated) g
 
 unit_rotation : (t : Vector) → (translation t).rotation ≡ identity.rotation
@@ -115,7 +129,8 @@ unfolding translation identity
 shift_of t = sub-null t
 
 pub few_centrings : (gs seeds kept : List Op) (cs : List Vec3) → AreInvertible gs → AreSeeds gs seeds (length gs) → IsPartial seeds kept
-    → All (λ g. HasProducts kept (operation g).rotation seeds (length seeds)) kept → IsPartialLattice gs cs → IsSettled gs kept cs (length cs) → HasFewCentrings (operations gs)
+    → All (λ g. HasProducts kept (operation g).rotation seeds (length seeds)) kept → IsPartialLattice gs cs → IsSettled gs kept cs (length cs)
+    → HasFewCentrings (operations gs)
 few_centrings gs seeds kept cs inv s partial products lattice settled = record {
   centrings = map vector cs;
   few = (let e : length (map vector cs) ≡ length cs = length-map cs vector in let f : length cs ≤ 32 = lattice.few in omega arith);
@@ -126,12 +141,23 @@ few_centrings gs seeds kept cs inv s partial products lattice settled = record {
     near t q =
         let d = first_of kept partial.nonempty in
         let e = first_of cs lattice.nonempty in
-        let zero : q.0 ≡ 0 = same_index kept d partial.distinct q.0 0 q.1 partial.nonempty (sym (q.2 d).0 ∙ unit_rotation t ∙ ap (λ (g : Operation). g.rotation) (sym (partial.identity_first d))) in
-        let h : HasTranslation cs t = subst (HasTranslation cs) (ap (λ n. (translation t).vector ⊖ (operation (get_or kept n d)).vector) zero ∙ ap (λ (g : Operation). (translation t).vector ⊖ g.vector) (partial.identity_first d) ∙ shift_of t) (q.2 d).1 in
-        (vector (get_or cs h.0 e), (h.0, (let f : length (map vector cs) ≡ length cs = length-map cs vector in let l : h.0 < length cs = h.1 in omega arith), get_or-map vector cs h.0 e (vector (get_or cs h.0 e)) h.1), h.2 e)
+        let zero : q.0 ≡ 0 = same_index kept d partial.distinct q.0 0 q.1 partial.nonempty (sym (q.2 d).0 ∙ unit_rotation t
+        ∙ ap (λ (g : Operation). g.rotation) (sym (partial.identity_first d))) in
+        let h : HasTranslation cs t = subst (HasTranslation cs) (ap (λ n. (translation t).vector ⊖ (operation (get_or kept n d)).vector) zero
+        ∙ ap (λ (g : Operation). (translation t).vector ⊖ g.vector) (partial.identity_first d) ∙ shift_of t) (q.2 d).1 in (
+          vector (get_or cs h.0 e),
+          (
+            h.0,
+            (let f : length (map vector cs) ≡ length cs = length-map cs vector in let l : h.0 < length cs = h.1 in omega arith),
+            get_or-map
+                vector cs h.0 e (vector (get_or cs h.0 e)) h.1,
+          ),
+          h.2 e,
+        )
 
 pub accepted : (gs seeds kept : List Op) (cs : List Vec3) → AreInvertible gs → AreSeeds gs seeds (length gs) → IsPartial seeds kept
-    → All (λ g. HasProducts kept (operation g).rotation seeds (length seeds)) kept → IsPartialLattice gs cs → IsSettled gs kept cs (length cs) → HasSmallDenominator gs → IsAccepted gs
+    → All (λ g. HasProducts kept (operation g).rotation seeds (length seeds)) kept → IsPartialLattice gs cs → IsSettled gs kept cs (length cs)
+    → HasSmallDenominator gs → IsAccepted gs
 accepted gs seeds kept cs inv s partial products lattice settled small = record {
   rotations = few_kept gs seeds kept inv (seeded_all gs seeds s) partial products (first_of kept partial.nonempty);
   denominator = small;
@@ -139,7 +165,8 @@ accepted gs seeds kept cs inv s partial products lattice settled small = record 
 }
 
 pub is_closing : (gs seeds kept : List Op) (cs : List Vec3) → AreInvertible gs → AreSeeds gs seeds (length gs) → IsPartial seeds kept
-    → All (λ g. HasProducts kept (operation g).rotation seeds (length seeds)) kept → IsPartialLattice gs cs → IsSettled gs kept cs (length cs) → HasSmallDenominator gs → IsClosing kept cs
+    → All (λ g. HasProducts kept (operation g).rotation seeds (length seeds)) kept → IsPartialLattice gs cs → IsSettled gs kept cs (length cs)
+    → HasSmallDenominator gs → IsClosing kept cs
 is_closing gs seeds kept cs inv s partial products lattice settled small =
     let all = kept_all gs seeds kept inv s partial products in
     let e = first_of cs lattice.nonempty in

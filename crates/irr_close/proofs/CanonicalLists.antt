@@ -14,11 +14,13 @@ use Rattle.irr_close.specs.Canonical.{IsCanonicalOf, AreCanonicalOf}
 use Rattle.irr_close.specs.Centring.{AreOverOne}
 use Rattle.irr_close.proofs.Lattice.{divisor_small}
 
-pub more_canonical : (cs : List Vec3) (ops made new : List Op) (g h : Op) (n : ℕ) → AreCanonicalOf cs ops made n → n < length ops → g ≡ get_or ops n g → IsCanonicalOf cs g h → new ≡ made ++ h ∷ [] → AreCanonicalOf cs ops new (n + 1)
+pub more_canonical : (cs : List Vec3) (ops made new : List Op) (g h : Op) (n : ℕ) → AreCanonicalOf cs ops made n → n < length ops → g ≡ get_or ops n g
+    → IsCanonicalOf cs g h → new ≡ made ++ h ∷ [] → AreCanonicalOf cs ops new (n + 1)
 more_canonical cs ops made new g h n all l e one is = subst (λ xs. AreCanonicalOf cs ops xs (n + 1)) (sym is) (record {
   long = (let a : length (made ++ h ∷ []) ≡ length made + 1 = length_push made h in let b = all.long in omega arith);
   each = λ j m d f. elim (cases_lt j n) [
-    | inl less ↦ subst (IsCanonicalOf cs (get_or ops j d)) (sym (get_or_append_left made (h ∷ []) f j (let b = all.long in omega arith))) (all.each j less d f)
+    | inl less ↦ subst (IsCanonicalOf cs (get_or ops j d)) (sym (get_or_append_left made (h ∷ []) f j (let b = all.long in omega arith)))
+        (all.each j less d f)
     | inr more ↦
         let here : j ≡ n = omega arith in
         let at : get_or (made ++ h ∷ []) j f ≡ h = get_or_push made h f j (all.long ∙ sym here) in
@@ -27,12 +29,15 @@ more_canonical cs ops made new g h n all l e one is = subst (λ xs. AreCanonical
   ];
 })
 
-pub canonical_small : (ops : List Op) (cs : List Vec3) (g : Op) (k : ℕ) (over : AreOverOne ops cs) → k < length ops → g ≡ get_or ops k g → (g.den ≤ 100000) × ((D : ℕ) × (0 < D) × (D ≤ 100000) × (g.den ∣ D) × All (λ c. c.den ∣ D) cs)
+pub canonical_small : (ops : List Op) (cs : List Vec3) (g : Op) (k : ℕ) (over : AreOverOne ops cs) → k < length ops → g ≡ get_or ops k g
+    → (g.den ≤ 100000) × ((D : ℕ) × (0 < D) × (D ≤ 100000) × (g.den ∣ D) × All (λ c. c.den ∣ D) cs)
 canonical_small ops cs g k over l e =
     let d : g.den ∣ over.common = subst (λ (x : Op). x.den ∣ over.common) (sym e) (over.kept_divide k g l) in
     (divisor_small g.den over.common over.positive over.small d, (over.common, over.positive, over.small, d, over.divide))
 
-pub apart_canonical : (cs : List Vec3) (ops made : List Op) → AreCanonicalOf cs ops made (length ops) → AllPairs (λ g h. ¬ ((operation g).rotation ≡ (operation h).rotation)) ops → AllPairs (λ g h. ¬ ((operation g).rotation ≡ (operation h).rotation)) made
+pub apart_canonical : (cs : List Vec3) (ops made : List Op) → AreCanonicalOf cs ops made (length ops)
+    → AllPairs (λ g h. ¬ ((operation g).rotation ≡ (operation h).rotation)) ops
+    → AllPairs (λ g h. ¬ ((operation g).rotation ≡ (operation h).rotation)) made
 apart_canonical cs ops made all apart i j d l m e =
     let long = all.long in
     apart i j d l (omega arith) (sym (all.each i (omega arith) d d).rotation ∙ e ∙ (all.each j (omega arith) d d).rotation)

@@ -33,9 +33,12 @@ add_assoc a b c = matrix-ext (λ i j. rationals.add_assoc (a.at i j) (b.at i j) 
 pub product_assoc : (g h k : Operation) → (g ⊙ h) ⊙ k ≡ g ⊙ (h ⊙ k)
 unfolding ◌⊙◌
 product_assoc g h k = operation-ext ((g ⊙ h) ⊙ k) (g ⊙ (h ⊙ k)) (mul_assoc g.rotation h.rotation k.rotation)
-    (ap (λ (m : Matrix rationals 3 3). (g.vector ⊕ (whole_matrix rationals g.rotation · h.vector)) ⊕ (m · k.vector)) (whole_matrix-mul rationals g.rotation h.rotation)
-    ∙ ap (λ (v : Vector). (g.vector ⊕ (whole_matrix rationals g.rotation · h.vector)) ⊕ v) (mul_assoc (whole_matrix rationals g.rotation) (whole_matrix rationals h.rotation) k.vector)
-    ∙ add_assoc g.vector (whole_matrix rationals g.rotation · h.vector) (whole_matrix rationals g.rotation · (whole_matrix rationals h.rotation · k.vector))
+    (ap (λ (m : Matrix rationals 3 3). (g.vector ⊕ (whole_matrix rationals g.rotation · h.vector)) ⊕ (m · k.vector))
+    (whole_matrix-mul rationals g.rotation h.rotation)
+    ∙ ap (λ (v : Vector). (g.vector ⊕ (whole_matrix rationals g.rotation · h.vector)) ⊕ v)
+    (mul_assoc (whole_matrix rationals g.rotation) (whole_matrix rationals h.rotation) k.vector)
+    ∙ add_assoc g.vector (whole_matrix rationals g.rotation · h.vector)
+    (whole_matrix rationals g.rotation · (whole_matrix rationals h.rotation · k.vector))
     ∙ ap (λ (v : Vector). g.vector ⊕ v) (sym (mul-add (whole_matrix rationals g.rotation) h.vector (whole_matrix rationals h.rotation · k.vector))))
 
 pub product-identity : (g : Operation) → g ⊙ identity ≡ g
@@ -46,7 +49,8 @@ product-identity g = operation-ext (g ⊙ identity) g (mul-unit g.rotation)
 pub identity-product : (g : Operation) → identity ⊙ g ≡ g
 unfolding ◌⊙◌ identity
 identity-product g = operation-ext (identity ⊙ g) g (unit-mul g.rotation)
-    (null-add (whole_matrix rationals (unit integers 3) · g.vector) ∙ ap (λ (m : Matrix rationals 3 3). m · g.vector) (whole_matrix-unit rationals 3) ∙ unit-mul g.vector)
+    (null-add (whole_matrix rationals (unit integers 3) · g.vector) ∙ ap (λ (m : Matrix rationals 3 3). m · g.vector) (whole_matrix-unit rationals 3)
+    ∙ unit-mul g.vector)
 
 -- sums and differences of vectors
 pub sum_as_difference : (a b : Vector) → a ⊖ (null ⊖ b) ≡ a ⊕ b
@@ -103,11 +107,13 @@ whole_sum (suc n) f h = whole-add (f first) (sum rationals n (λ i. f (next i)))
 
 pub turned_whole : (R : Rotation) (v : Vector) → IsWholeVector v → IsWholeVector (whole_matrix rationals R · v)
 unfolding component ◌·◌ whole_matrix
-turned_whole R v h i = whole_sum 3 (λ j. rationals.mul (integer rationals (R.at i j)) (v.at j first)) (λ j. whole-mul (integer rationals (R.at i j)) (v.at j first) (whole-integer (R.at i j)) (h j))
+turned_whole R v h i = whole_sum 3 (λ j. rationals.mul (integer rationals (R.at i j)) (v.at j first))
+    (λ j. whole-mul (integer rationals (R.at i j)) (v.at j first) (whole-integer (R.at i j)) (h j))
 
 pub whole_flipped : (v w : Vector) → IsWholeVector (v ⊖ w) → IsWholeVector (w ⊖ v)
 unfolding component ◌⊖◌
-whole_flipped v w h i = subst IsWhole (entry rationals (v.at i first) (w.at i first)) (whole-neg (rationals.add (v.at i first) (rationals.neg (w.at i first))) (h i))
+whole_flipped v w h i = subst IsWhole (entry rationals (v.at i first) (w.at i first))
+    (whole-neg (rationals.add (v.at i first) (rationals.neg (w.at i first))) (h i))
   where
     entry : (R : Ring) (x y : R.Carrier) → R.neg (R.add x (R.neg y)) ≡ R.add y (R.neg x)
     entry R x y = simp (ring_laws, R)
@@ -122,7 +128,8 @@ null_whole i = subst IsWhole (sym (component-null i)) whole_zero
 pub by_translation : (g h : Operation) → h.rotation ≡ g.rotation → translation (h.vector ⊖ g.vector) ⊙ g ≡ h
 unfolding ◌⊙◌ translation
 by_translation g h e = operation-ext (translation (h.vector ⊖ g.vector) ⊙ g) h (unit-mul g.rotation ∙ sym e)
-    (ap (λ (v : Vector). (h.vector ⊖ g.vector) ⊕ v) (ap (λ (m : Matrix rationals 3 3). m · g.vector) (whole_matrix-unit rationals 3) ∙ unit-mul g.vector)
+    (ap (λ (v : Vector). (h.vector ⊖ g.vector) ⊕ v) (ap (λ (m : Matrix rationals 3 3). m · g.vector) (whole_matrix-unit rationals 3)
+    ∙ unit-mul g.vector)
     ∙ back_again h.vector g.vector)
 
 -- what the kept operations and the lattice have to meet
@@ -164,14 +171,17 @@ kept_by_generated gens S k t (inverse {g} {h} e p) = let a = kept_by_generated g
 }
 
 -- where the kept operations and the translations are generated, so is what they stand for
-pub generated_of_stood : (generators : List Operation) (n : ℕ) (kept : Fin n → Operation) (L : Vector → Type 0) → ((i : Fin n) → Generated generators (kept i)) → ((v : Vector) → L v → Generated generators (translation v))
+pub generated_of_stood : (generators : List Operation) (n : ℕ) (kept : Fin n → Operation) (L : Vector → Type 0)
+    → ((i : Fin n) → Generated generators (kept i)) → ((v : Vector) → L v → Generated generators (translation v))
     → (g : Operation) → IsStoodFor kept L g → Generated generators g
-generated_of_stood generators n kept L kept_generated lattice_generated g s = subst (Generated generators) (by_translation (kept s.place) g s.same_rotation)
+generated_of_stood generators n kept L kept_generated lattice_generated g s = subst (Generated generators)
+    (by_translation (kept s.place) g s.same_rotation)
     (product (lattice_generated (g.vector ⊖ (kept s.place).vector) s.in_lattice) (kept_generated s.place))
 
 module _ (generators : List Operation) (n : ℕ) (kept : Fin n → Operation) (L : Vector → Type 0) (closed : IsClosed generators n kept L) where
   sum_in_lattice : (a b : Vector) → L a → L b → L (a ⊕ b)
-  sum_in_lattice a b p q = subst L (sum_as_difference a b) (closed.difference a (null ⊖ b) p (closed.difference null b (closed.whole null null_whole) q))
+  sum_in_lattice a b p q = subst L (sum_as_difference a b)
+      (closed.difference a (null ⊖ b) p (closed.difference null b (closed.whole null null_whole) q))
 
   -- one more generator
   forth_by_generator : (s : Operation) → Contains generators s → (m : Operation) → IsStoodFor kept L m → IsStoodFor kept L (m ⊙ s)
@@ -179,14 +189,19 @@ module _ (generators : List Operation) (n : ℕ) (kept : Fin n → Operation) (L
   forth_by_generator s c m h = record {
     place = closed.next_place h.place s c;
     same_rotation = ap (λ (R : Rotation). R · s.rotation) h.same_rotation ∙ closed.next_rotation h.place s c;
-    in_lattice = subst L (ap (λ (R : Rotation). (m.vector ⊖ (kept h.place).vector) ⊕ (((kept h.place).vector ⊕ (whole_matrix rationals R · s.vector)) ⊖ (kept (closed.next_place h.place s c)).vector)) (sym h.same_rotation)
-        ∙ split_difference m.vector (kept h.place).vector (whole_matrix rationals m.rotation · s.vector) (kept (closed.next_place h.place s c)).vector)
-        (sum_in_lattice (m.vector ⊖ (kept h.place).vector) ((kept h.place ⊙ s).vector ⊖ (kept (closed.next_place h.place s c)).vector) h.in_lattice (closed.next_vector h.place s c));
+    in_lattice = subst L (ap
+        (λ (R : Rotation). (m.vector ⊖ (kept h.place).vector) ⊕
+        (((kept h.place).vector ⊕ (whole_matrix rationals R · s.vector)) ⊖ (kept (closed.next_place h.place s c)).vector)) (sym h.same_rotation)
+        ∙ split_difference m.vector (kept h.place).vector (whole_matrix rationals m.rotation · s.vector)
+        (kept (closed.next_place h.place s c)).vector)
+        (sum_in_lattice (m.vector ⊖ (kept h.place).vector) ((kept h.place ⊙ s).vector ⊖ (kept (closed.next_place h.place s c)).vector) h.in_lattice
+        (closed.next_vector h.place s c));
   }
 
   -- a rotation cancels
   cancelled : (R T S U : Rotation) → S · U ≡ unit integers 3 → R · S ≡ T · S → R ≡ T
-  cancelled R T S U e h = sym (mul-unit R) ∙ ap (λ (M : Rotation). R · M) (sym e) ∙ sym (mul_assoc R S U) ∙ ap (λ (M : Rotation). M · U) h ∙ mul_assoc T S U ∙ ap (λ (M : Rotation). T · M) e ∙ mul-unit T
+  cancelled R T S U e h = sym (mul-unit R) ∙ ap (λ (M : Rotation). R · M) (sym e) ∙ sym (mul_assoc R S U) ∙ ap (λ (M : Rotation). M · U) h
+      ∙ mul_assoc T S U ∙ ap (λ (M : Rotation). T · M) e ∙ mul-unit T
 
   -- and one less
   back_by_generator : (s : Operation) → Contains generators s → (m : Operation) → IsStoodFor kept L (m ⊙ s) → IsStoodFor kept L m
@@ -194,14 +209,17 @@ module _ (generators : List Operation) (n : ℕ) (kept : Fin n → Operation) (L
   back_by_generator s c m h = from_source (onto (λ i. closed.next_place i s c) one_source h.place)
     where
       one_source : (i j : Fin n) → closed.next_place i s c ≡ closed.next_place j s c → i ≡ j
-      one_source i j e = closed.distinct i j (cancelled (kept i).rotation (kept j).rotation s.rotation (closed.invertible s c).0 (closed.invertible s c).1
+      one_source i j e = closed.distinct i j
+          (cancelled (kept i).rotation (kept j).rotation s.rotation (closed.invertible s c).0 (closed.invertible s c).1
           (closed.next_rotation i s c ∙ ap (λ k. (kept k).rotation) e ∙ sym (closed.next_rotation j s c)))
 
       from_source : (i : Fin n) × (closed.next_place i s c ≡ h.place) → IsStoodFor kept L m
       from_source t = record {
         place = t.0;
         same_rotation = same;
-        in_lattice = subst L (ap (λ (R : Rotation). ((m.vector ⊕ (whole_matrix rationals m.rotation · s.vector)) ⊖ (kept h.place).vector) ⊖ (((kept t.0).vector ⊕ (whole_matrix rationals R · s.vector)) ⊖ (kept h.place).vector)) (sym same)
+        in_lattice = subst L (ap
+            (λ (R : Rotation). ((m.vector ⊕ (whole_matrix rationals m.rotation · s.vector)) ⊖ (kept h.place).vector)
+            ⊖ (((kept t.0).vector ⊕ (whole_matrix rationals R · s.vector)) ⊖ (kept h.place).vector)) (sym same)
             ∙ shared_difference m.vector (kept t.0).vector (whole_matrix rationals m.rotation · s.vector) (kept h.place).vector)
             (closed.difference ((m ⊙ s).vector ⊖ (kept h.place).vector) ((kept t.0 ⊙ s).vector ⊖ (kept h.place).vector) h.in_lattice
             (subst (λ k. L ((kept t.0 ⊙ s).vector ⊖ (kept k).vector)) t.1 (closed.next_vector t.0 s c)));
@@ -219,18 +237,26 @@ module _ (generators : List Operation) (n : ℕ) (kept : Fin n → Operation) (L
       place = h.place;
       same_rotation = mul-unit m.rotation ∙ h.same_rotation;
       in_lattice = subst L (later_difference m.vector (whole_matrix rationals m.rotation · t) (kept h.place).vector)
-          (sum_in_lattice (m.vector ⊖ (kept h.place).vector) (whole_matrix rationals m.rotation · t) h.in_lattice (closed.whole (whole_matrix rationals m.rotation · t) (turned_whole m.rotation t w)));
+          (sum_in_lattice (m.vector ⊖ (kept h.place).vector) (whole_matrix rationals m.rotation · t) h.in_lattice
+          (closed.whole (whole_matrix rationals m.rotation · t) (turned_whole m.rotation t w)));
     };
     back = λ m h. record {
       place = h.place;
       same_rotation = sym (mul-unit m.rotation) ∙ h.same_rotation;
       in_lattice = subst L (taken_again m.vector (whole_matrix rationals m.rotation · t) (kept h.place).vector)
-          (closed.difference ((m.vector ⊕ (whole_matrix rationals m.rotation · t)) ⊖ (kept h.place).vector) (whole_matrix rationals m.rotation · t) h.in_lattice
+          (closed.difference ((m.vector ⊕ (whole_matrix rationals m.rotation · t)) ⊖ (kept h.place).vector) (whole_matrix rationals m.rotation · t)
+          h.in_lattice
           (closed.whole (whole_matrix rationals m.rotation · t) (turned_whole m.rotation t w)));
     };
   }
 
   pub stood_of_generated : (g : Operation) → Generated generators g → IsStoodFor kept L g
   stood_of_generated g h = subst (IsStoodFor kept L) (identity-product g)
-      ((kept_by_generated generators (IsStoodFor kept L) (λ s c. record { forth = forth_by_generator s c; back = back_by_generator s c }) (λ i. by_whole (column (unit rationals 3) i) (unit_whole i)) h).forth identity
-      (record { place = closed.unit_place; same_rotation = ap (λ (k : Operation). k.rotation) (sym closed.unit_kept); in_lattice = subst L (sym (ap (λ (k : Operation). identity.vector ⊖ k.vector) closed.unit_kept ∙ sub_self identity.vector)) (closed.whole null null_whole) }))
+      ((kept_by_generated generators (IsStoodFor kept L) (λ s c. record { forth = forth_by_generator s c; back = back_by_generator s c })
+      (λ i. by_whole (column (unit rationals 3) i) (unit_whole i)) h).forth identity
+      (record {
+        place = closed.unit_place;
+        same_rotation = ap (λ (k : Operation). k.rotation) (sym closed.unit_kept);
+        in_lattice = subst L
+            (sym (ap (λ (k : Operation). identity.vector ⊖ k.vector) closed.unit_kept ∙ sub_self identity.vector)) (closed.whole null null_whole);
+      }))

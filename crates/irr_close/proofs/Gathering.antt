@@ -59,7 +59,8 @@ kept_small gs g c k = divisor_small g.den c.common c.positive c.small (k.divides
 kept_numbers : (gs : List Op) (g : Op) → HasSmallDenominator gs → IsKept gs g → IsGenerator g
 kept_numbers gs g c k = record {
   within = k.within;
-  numerators = λ i. (let a : unsigned_abs (entry g.num i) ≤ g.den = small_numerators g.num g.den g.lowest.positive k.in_cell i in let b : g.den ≤ 100000 = kept_small gs g c k in omega arith);
+  numerators = λ i. (let a : unsigned_abs (entry g.num i) ≤ g.den = small_numerators g.num g.den g.lowest.positive k.in_cell
+      i in let b : g.den ≤ 100000 = kept_small gs g c k in omega arith);
 }
 
 pub kept_generator : (gs kept : List Op) → HasSmallDenominator gs → All (IsKept gs) kept → All IsGenerator kept
@@ -85,7 +86,8 @@ over_kept gs kept op c all h = record {
   factors_divide = λ k d l. (all k d l).divides c.common c.positive c.multiple;
 }
 
-pub from_generators : (gs kept : List Op) (op : Op) → AreInvertible gs → All IsGenerator gs → All (IsKept gs) kept → IsKept gs op → AreFrom gs kept op gs
+pub from_generators : (gs kept : List Op) (op : Op) → AreInvertible gs → All IsGenerator gs → All (IsKept gs) kept → IsKept gs op
+    → AreFrom gs kept op gs
 from_generators gs kept op inv numbers all h = record {
   invertible = inv;
   kept_from = all;
@@ -93,12 +95,18 @@ from_generators gs kept op inv numbers all h = record {
   factors_from = λ k d l. record { generated = generated_at gs k d l; numbers = numbers k d l; divides = λ D p den. den k d l };
 }
 
-pub from_kept : (gs kept : List Op) (op : Op) → HasSmallDenominator gs → AreInvertible gs → All (IsKept gs) kept → IsKept gs op → AreFrom gs kept op kept
+pub from_kept : (gs kept : List Op) (op : Op) → HasSmallDenominator gs → AreInvertible gs → All (IsKept gs) kept → IsKept gs op
+    → AreFrom gs kept op kept
 from_kept gs kept op c inv all h = record {
   invertible = inv;
   kept_from = all;
   op_from = h;
-  factors_from = λ k d l. record { generated = (all k d l).generated; numbers = kept_numbers gs (get_or kept k d) c (all k d l); divides = (all k d l).divides };
+  factors_from = λ k d l. record {
+    generated = (all k d l).generated;
+    numbers = kept_numbers gs (get_or kept k d) c (all k d l);
+    divides =
+        (all k d l).divides;
+  };
 }
 
 identity-vector : identity.vector ≡ null
@@ -118,7 +126,8 @@ start_lattice gs cs z e f h = subst (IsPartialLattice gs) (sym h) (record {
   distinct = λ i j d l m. absurd (omega arith);
 })
 
-all_longer : (kept : List Op) (old new : List Vec3) (g : Operation) (xs : List Op) → IsLonger old new → All (λ s. HasQuotient kept old g (operation s)) xs → All (λ s. HasQuotient kept new g (operation s)) xs
+all_longer : (kept : List Op) (old new : List Vec3) (g : Operation) (xs : List Op) → IsLonger old new
+    → All (λ s. HasQuotient kept old g (operation s)) xs → All (λ s. HasQuotient kept new g (operation s)) xs
 all_longer kept old new g xs t h k d l = has_quotient_longer kept old new g (operation (get_or xs k d)) t (h k d l)
 
 gathered_longer : (gs kept : List Op) (old new : List Vec3) (n : ℕ) → IsLonger old new → IsGathered gs kept old n → IsGathered gs kept new n
@@ -127,19 +136,22 @@ gathered_longer gs kept old new n t h = record {
   products_in = λ j l d. all_longer kept old new (operation (get_or kept j d)) kept t (h.products_in j l d);
 }
 
-pub gathered_start : (gs kept : List Op) (cs : List Vec3) (op : Op) → 0 < length kept → op ≡ get_or kept 0 op → All (λ s. HasQuotient kept cs (operation op) (operation s)) gs → IsGathered gs kept cs 0
+pub gathered_start : (gs kept : List Op) (cs : List Vec3) (op : Op) → 0 < length kept → op ≡ get_or kept 0 op
+    → All (λ s. HasQuotient kept cs (operation op) (operation s)) gs → IsGathered gs kept cs 0
 gathered_start gs kept cs op l e h = record {
   generators_in = λ d. subst (λ (g : Op). All (λ s. HasQuotient kept cs (operation g) (operation s)) gs) (e ∙ get_or_default kept 0 op d l) h;
   products_in = λ j m. absurd (omega arith);
 }
 
-pub gathered_more : (gs kept : List Op) (old new : List Vec3) (op : Op) (n : ℕ) → n < length kept → op ≡ get_or kept n op → IsLonger old new → All (λ s. HasQuotient kept new (operation op) (operation s)) kept
+pub gathered_more : (gs kept : List Op) (old new : List Vec3) (op : Op) (n : ℕ) → n < length kept → op ≡ get_or kept n op → IsLonger old new
+    → All (λ s. HasQuotient kept new (operation op) (operation s)) kept
     → IsGathered gs kept old n → IsGathered gs kept new (n + 1)
 gathered_more gs kept old new op n l e t q h = let g = gathered_longer gs kept old new n t h in record {
   generators_in = g.generators_in;
   products_in = λ j m d. elim (cases_lt j n) [
     | inl less ↦ g.products_in j less d
-    | inr last ↦ (let p : n ≡ j = omega arith in subst (λ (x : Op). All (λ s. HasQuotient kept new (operation x) (operation s)) kept) (e ∙ get_or_default kept n op d l ∙ ap (λ k. get_or kept k d) p) q)
+    | inr last ↦ (let p : n ≡ j = omega arith in subst (λ (x : Op). All (λ s. HasQuotient kept new (operation x) (operation s)) kept) (e
+        ∙ get_or_default kept n op d l ∙ ap (λ k. get_or kept k d) p) q)
   ];
 }
 
@@ -157,26 +169,32 @@ both_longer old new a b t h = (translation_longer old new (vector a ⊖ vector b
 moved : (old new : List Vec3) (P : Vec3 → Type 0) (k : ℕ) → IsLonger old new → k < length old → HoldsAt P old k → HoldsAt P new k
 moved old new P k t l h d = subst P (longer-at old new t k d l) (h d)
 
-differences_longer : (old new : List Vec3) (i : ℕ) → IsLonger old new → i < length old → HoldsAt (λ a. (j : ℕ) → j ≤ i → HoldsAt (λ b. HasBothDifferences new a b) old j) old i
+differences_longer : (old new : List Vec3) (i : ℕ) → IsLonger old new → i < length old
+    → HoldsAt (λ a. (j : ℕ) → j ≤ i → HoldsAt (λ b. HasBothDifferences new a b) old j) old i
     → HoldsAt (λ a. (j : ℕ) → j ≤ i → HoldsAt (λ b. HasBothDifferences new a b) new j) new i
 differences_longer old new i t l h = moved old new (λ a. (j : ℕ) → j ≤ i → HoldsAt (λ b. HasBothDifferences new a b) new j) i t l
     (λ d j m. moved old new (HasBothDifferences new (get_or old i d)) j t (omega arith) (h d j m))
 
-pub settled_more : (gs kept : List Op) (old mid new : List Vec3) (i : ℕ) → i < length old → IsLonger old mid → IsLonger mid new → IsSettled gs kept old i
+pub settled_more : (gs kept : List Op) (old mid new : List Vec3) (i : ℕ) → i < length old → IsLonger old mid → IsLonger mid new
+    → IsSettled gs kept old i
     → HoldsAt (λ a. (j : ℕ) → j ≤ i → HoldsAt (λ b. HasBothDifferences mid a b) old j) old i
     → HoldsAt (λ c. All (λ g. HasQuotient kept new (operation g) (translation (vector c))) kept) mid i → IsSettled gs kept new (i + 1)
 settled_more gs kept old mid new i l s t h both turns = record {
   gathered = gathered_longer gs kept old new (length kept) all h.gathered;
   differences = λ k m. elim (cases_lt k i) [
-    | inl less ↦ differences_longer old new k all (omega arith) (λ d j q b. both_longer old new (get_or old k d) (get_or old j b) all (h.differences k less d j q b))
+    | inl less ↦ differences_longer old new k all (omega arith)
+        (λ d j q b. both_longer old new (get_or old k d) (get_or old j b) all (h.differences k less d j q b))
     | inr last ↦ (let p : i ≡ k = omega arith in subst (λ n. HoldsAt (λ a. (j : ℕ) → j ≤ n → HoldsAt (λ b. HasBothDifferences new a b) new j) new n) p
         (differences_longer old new i all l (λ d j q b. both_longer mid new (get_or old i d) (get_or old j b) t (both d j q b))))
   ];
   turned = λ k m. elim (cases_lt k i) [
     | inl less ↦ moved old new (λ c. All (λ g. HasQuotient kept new (operation g) (translation (vector c))) kept) k all (omega arith)
-        (λ d j b q. has_quotient_longer kept old new (operation (get_or kept j b)) (translation (vector (get_or old k d))) all (h.turned k less d j b q))
-    | inr last ↦ (let p : i ≡ k = omega arith in subst (λ n. HoldsAt (λ c. All (λ g. HasQuotient kept new (operation g) (translation (vector c))) kept) new n) p
-        (moved mid new (λ c. All (λ g. HasQuotient kept new (operation g) (translation (vector c))) kept) i t (let a : length old ≤ length mid = longer-length old mid s in omega arith) turns))
+        (λ d j b q. has_quotient_longer kept old new (operation (get_or kept j b)) (translation (vector (get_or old k d))) all
+        (h.turned k less d j b q))
+    | inr last ↦ (let p : i ≡ k = omega
+        arith in subst (λ n. HoldsAt (λ c. All (λ g. HasQuotient kept new (operation g) (translation (vector c))) kept) new n) p
+        (moved mid new (λ c. All (λ g. HasQuotient kept new (operation g) (translation (vector c))) kept) i t
+        (let a : length old ≤ length mid = longer-length old mid s in omega arith) turns))
   ];
 }
   where

@@ -32,7 +32,8 @@ use Rattle.irr_close.specs.Closing.{IsKept, IsPartial}
 pub no_shift : vector_of (pos 0 ∷ pos 0 ∷ pos 0 ∷ []) 1 ≡ null
 unfolding to_nat
 no_shift = vector-ext (vector_of (pos 0 ∷ pos 0 ∷ pos 0 ∷ []) 1) null (λ i. component-vector_of (pos 0 ∷ pos 0 ∷ pos 0 ∷ []) 1 i
-    ∙ ap (λ k. ratio k 1) (each_of_three (λ i. entry (pos 0 ∷ pos 0 ∷ pos 0 ∷ []) i ≡ pos 0) refl refl refl i) ∙ ratio-zero 1 (omega arith) ∙ sym (component-null i))
+    ∙ ap (λ k. ratio k 1) (each_of_three (λ i. entry (pos 0 ∷ pos 0 ∷ pos 0 ∷ []) i ≡ pos 0) refl refl refl i) ∙ ratio-zero 1 (omega arith)
+    ∙ sym (component-null i))
 
 pub no_shift-lowest : AreThreeLowest (pos 0 ∷ pos 0 ∷ pos 0 ∷ []) 1
 no_shift-lowest = record { positive = omega arith; lowest = λ d h k. Nat.dvd_antisymm h (Nat.one-dvd d) }

@@ -25,3 +25,4 @@ pub mod Returns
 pub mod RotationGroups
 pub mod Exponents
 pub mod Along
+pub mod Reduction

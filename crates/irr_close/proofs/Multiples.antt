@@ -35,12 +35,14 @@ gcd_exists = strong_induction (λ b. (a : ℕ) → (g : ℕ) × IsGcd a b g) ste
   where
     step : (b : ℕ) → ((m : ℕ) → m < b → (a : ℕ) → (g : ℕ) × IsGcd a m g) → (a : ℕ) → (g : ℕ) × IsGcd a b g
     step zero ih a = (a, IsGcd-from_zero a 0 refl)
-    step (suc b) ih a = let t : (g : ℕ) × IsGcd (suc b) (a % suc b) g = ih (a % suc b) (mod-lt a (omega arith)) (suc b) in (t.0, IsGcd-from_mod a (suc b) t.0 t.1)
+    step (suc b) ih a = let t : (g : ℕ) × IsGcd (suc b) (a % suc b) g = ih (a % suc b) (mod-lt a (omega arith)) (suc b) in
+        (t.0, IsGcd-from_mod a (suc b) t.0 t.1)
 
 lcm_exists : (a b : ℕ) → 0 < a → (m : ℕ) × IsLcm a b m
 lcm_exists a b h = let t : (g : ℕ) × IsGcd a b g = gcd_exists b a in (_, lcm_of_gcd a b t.0 h t.1)
 
-pub least_more : (gs : List Op) (g : Op) (common n m : ℕ) → n < length gs → g ≡ get_or gs n g → IsLeastSoFar gs common n → IsLcm common g.den m → m ≤ 100000 → IsLeastSoFar gs m (n + 1)
+pub least_more : (gs : List Op) (g : Op) (common n m : ℕ) → n < length gs → g ≡ get_or gs n g → IsLeastSoFar gs common n → IsLcm common g.den m
+    → m ≤ 100000 → IsLeastSoFar gs m (n + 1)
 least_more gs g common n m l e s h small = record {
   positive = lcm_positive common g.den m s.positive g.lowest.positive h;
   small = small;
@@ -51,10 +53,14 @@ least_more gs g common n m l e s h small = record {
   least = λ D p all. h.2 D (s.least D p all) (subst (λ (x : Op). x.den ∣ D) (sym e) (all n g l));
 }
 
-pub too_large : (gs : List Op) (g : Op) (common n m : ℕ) → n < length gs → g ≡ get_or gs n g → IsLeastSoFar gs common n → IsLcm common g.den m → 100000 < m → ¬ (HasSmallDenominator gs)
-too_large gs g common n m l e s h large c = let d : m ≤ c.common = Nat.le_of_dvd c.positive (h.2 c.common (s.least c.common c.positive c.multiple) (subst (λ (x : Op). x.den ∣ c.common) (sym e) (c.multiple n g l))) in let b = c.small in omega arith
+pub too_large : (gs : List Op) (g : Op) (common n m : ℕ) → n < length gs → g ≡ get_or gs n g → IsLeastSoFar gs common n → IsLcm common g.den m
+    → 100000 < m → ¬ (HasSmallDenominator gs)
+too_large gs g common n m l e s h large c = let d : m ≤ c.common = Nat.le_of_dvd c.positive
+    (h.2 c.common (s.least c.common c.positive c.multiple) (subst (λ (x : Op). x.den ∣ c.common) (sym e) (c.multiple n g l))) in let b = c.small in
+    omega arith
 
-pub no_multiple : (gs : List Op) (g : Op) (common n : ℕ) → n < length gs → g ≡ get_or gs n g → IsLeastSoFar gs common n → ((m : ℕ) → IsLcm common g.den m → 2 ^ 64 ≤ m) → ¬ (HasSmallDenominator gs)
+pub no_multiple : (gs : List Op) (g : Op) (common n : ℕ) → n < length gs → g ≡ get_or gs n g → IsLeastSoFar gs common n
+    → ((m : ℕ) → IsLcm common g.den m → 2 ^ 64 ≤ m) → ¬ (HasSmallDenominator gs)
 no_multiple gs g common n l e s past c = let t : (m : ℕ) × IsLcm common g.den m = lcm_exists common g.den s.positive in
     too_large gs g common n t.0 l e s t.1 (let b : 2 ^ 64 ≤ t.0 = past t.0 t.1 in omega arith) c
 

@@ -26,10 +26,13 @@ less_chain x y z a b = omega (arith, ints)
 pub below_chain : (R S T : Rotation) → IsRotationBelow R S → IsRotationBelow S T → IsRotationBelow R T
 below_chain R S T p q = at_rows (cases_lt (to_nat p.row) (to_nat q.row)) (cases_lt (to_nat q.row) (to_nat p.row))
   where
-    at_places : q.row ≡ p.row → (to_nat p.place < to_nat q.place) ⊎ (to_nat q.place ≤ to_nat p.place) → (to_nat q.place < to_nat p.place) ⊎ (to_nat p.place ≤ to_nat q.place) → IsRotationBelow R T
+    at_places : q.row ≡ p.row → (to_nat p.place < to_nat q.place) ⊎ (to_nat q.place ≤ to_nat p.place) → (to_nat q.place < to_nat p.place)
+        ⊎ (to_nat p.place ≤ to_nat q.place) → IsRotationBelow R T
     at_places e c f =
-        let rows : (i j : Fin 3) → to_nat i < to_nat p.row → S.at i j ≡ T.at i j = subst (λ r. (i j : Fin 3) → to_nat i < to_nat r → S.at i j ≡ T.at i j) e q.rows_before in
-        let before : (j : Fin 3) → to_nat j < to_nat q.place → S.at p.row j ≡ T.at p.row j = subst (λ r. (j : Fin 3) → to_nat j < to_nat q.place → S.at r j ≡ T.at r j) e q.before in
+        let rows : (i j : Fin 3) → to_nat i < to_nat p.row → S.at i j ≡ T.at i j = subst (λ r. (i j : Fin 3) → to_nat i < to_nat r
+        → S.at i j ≡ T.at i j) e q.rows_before in
+        let before : (j : Fin 3) → to_nat j < to_nat q.place → S.at p.row j ≡ T.at p.row j = subst (λ r. (j : Fin 3) → to_nat j < to_nat q.place
+        → S.at r j ≡ T.at r j) e q.before in
         let less : S.at p.row q.place <ℤ T.at p.row q.place = subst (λ r. S.at r q.place <ℤ T.at r q.place) e q.less in
         elim c [
           | inl l ↦ record {
@@ -52,12 +55,14 @@ below_chain R S T p q = at_rows (cases_lt (to_nat p.row) (to_nat q.row)) (cases_
               place = p.place;
               rows_before = λ i j a. p.rows_before i j a ∙ rows i j a;
               before = λ j a. p.before j a ∙ before j (omega arith);
-              less = less_chain (R.at p.row p.place) (S.at p.row p.place) (T.at p.row p.place) p.less (subst (λ j. S.at p.row j <ℤ T.at p.row j) (to_nat_inj q.place p.place (omega arith)) less);
+              less = less_chain (R.at p.row p.place) (S.at p.row p.place) (T.at p.row p.place) p.less
+                  (subst (λ j. S.at p.row j <ℤ T.at p.row j) (to_nat_inj q.place p.place (omega arith)) less);
             }
           ]
         ]
 
-    at_rows : (to_nat p.row < to_nat q.row) ⊎ (to_nat q.row ≤ to_nat p.row) → (to_nat q.row < to_nat p.row) ⊎ (to_nat p.row ≤ to_nat q.row) → IsRotationBelow R T
+    at_rows : (to_nat p.row < to_nat q.row) ⊎ (to_nat q.row ≤ to_nat p.row) → (to_nat q.row < to_nat p.row) ⊎ (to_nat p.row ≤ to_nat q.row)
+        → IsRotationBelow R T
     at_rows (inl l) c = record {
       row = p.row;
       place = p.place;
@@ -72,7 +77,8 @@ below_chain R S T p q = at_rows (cases_lt (to_nat p.row) (to_nat q.row)) (cases_
       before = λ j a. p.rows_before q.row j l ∙ q.before j a;
       less = subst (λ x. x <ℤ T.at q.row q.place) (sym (p.rows_before q.row q.place l)) q.less;
     }
-    at_rows (inr k) (inr l) = at_places (to_nat_inj q.row p.row (omega arith)) (cases_lt (to_nat p.place) (to_nat q.place)) (cases_lt (to_nat q.place) (to_nat p.place))
+    at_rows (inr k) (inr l) = at_places (to_nat_inj q.row p.row (omega arith)) (cases_lt (to_nat p.place) (to_nat q.place))
+        (cases_lt (to_nat q.place) (to_nat p.place))
 
 -- the rows of a rotation
 rows_of : Rotation → List (List ℤ)
@@ -84,13 +90,16 @@ rotation_of-rows : (R : Rotation) → rotation_of (rows_of R) ≡ R
 unfolding rows_of
 rotation_of-rows R = rotation_of-list (rows_of R) R refl refl refl refl refl refl refl refl refl
 
-cases_of_lists : (a b : List (List ℤ)) → IsRotationBelow (rotation_of a) (rotation_of b) ⊎ ((rotation_of a ≡ rotation_of b) ⊎ IsRotationBelow (rotation_of b) (rotation_of a))
-cases_of_lists a b = by_ranked (IsRotationBelow (rotation_of a) (rotation_of b)) (rotation_of a ≡ rotation_of b) (IsRotationBelow (rotation_of b) (rotation_of a)) _ (match_of_rotations a b)
+cases_of_lists : (a b : List (List ℤ)) → IsRotationBelow (rotation_of a) (rotation_of b)
+    ⊎ ((rotation_of a ≡ rotation_of b) ⊎ IsRotationBelow (rotation_of b) (rotation_of a))
+cases_of_lists a b = by_ranked (IsRotationBelow (rotation_of a) (rotation_of b)) (rotation_of a ≡ rotation_of b)
+    (IsRotationBelow (rotation_of b) (rotation_of a)) _ (match_of_rotations a b)
     (λ o l. inl l) (λ o l. inr (inl l)) (λ o l. inr (inr l))
 
 pub rotation_cases : (R S : Rotation) → IsRotationBelow R S ⊎ ((R ≡ S) ⊎ IsRotationBelow S R)
 rotation_cases R S = subst (λ A. IsRotationBelow A S ⊎ ((A ≡ S) ⊎ IsRotationBelow S A)) (rotation_of-rows R)
-    (subst (λ B. IsRotationBelow (rotation_of (rows_of R)) B ⊎ ((rotation_of (rows_of R) ≡ B) ⊎ IsRotationBelow B (rotation_of (rows_of R)))) (rotation_of-rows S) (cases_of_lists (rows_of R) (rows_of S)))
+    (subst (λ B. IsRotationBelow (rotation_of (rows_of R)) B ⊎ ((rotation_of (rows_of R) ≡ B) ⊎ IsRotationBelow B (rotation_of (rows_of R))))
+    (rotation_of-rows S) (cases_of_lists (rows_of R) (rows_of S)))
 
 unit_or_not : (R : Rotation) → IsUnit R ⊎ ¬ (IsUnit R)
 unit_or_not R = elim (rotation_cases R (unit integers 3)) [
@@ -112,7 +121,8 @@ numbered_chain R S T p q = (q.0, joined p.1 q.1)
 pub numbered_cases : (R S : Rotation) → IsNumberedBefore R S ⊎ ((R ≡ S) ⊎ IsNumberedBefore S R)
 numbered_cases R S = by_units (unit_or_not R) (unit_or_not S) (rotation_cases R S)
   where
-    by_units : IsUnit R ⊎ ¬ (IsUnit R) → IsUnit S ⊎ ¬ (IsUnit S) → IsRotationBelow R S ⊎ ((R ≡ S) ⊎ IsRotationBelow S R) → IsNumberedBefore R S ⊎ ((R ≡ S) ⊎ IsNumberedBefore S R)
+    by_units : IsUnit R ⊎ ¬ (IsUnit R) → IsUnit S ⊎ ¬ (IsUnit S) → IsRotationBelow R S ⊎ ((R ≡ S) ⊎ IsRotationBelow S R) → IsNumberedBefore R S
+        ⊎ ((R ≡ S) ⊎ IsNumberedBefore S R)
     by_units (inl u) (inl v) c = inr (inl (u ∙ sym v))
     by_units (inl u) (inr n) c = inl (n, inl u)
     by_units (inr m) (inl v) c = inr (inr (m, inl v))

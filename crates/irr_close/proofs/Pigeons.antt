@@ -37,7 +37,8 @@ pub record AreTwoAt {m n : ℕ} (f : Fin m → Fin n) : Type 0 where
 
 pub pigeons : (n : ℕ) (f : Fin (suc n) → Fin n) → AreTwoAt f
 pigeons zero f = elim (f first) [ ]
-pigeons (suc n) f = go (λ g. pigeons n g) (all_or_one (suc n) (λ i. f first ≡ f (next i) → ⊥) (λ i. f first ≡ f (next i)) (λ i. flip i (same_or_not (f first) (f (next i)))))
+pigeons (suc n) f = go (λ g. pigeons n g)
+    (all_or_one (suc n) (λ i. f first ≡ f (next i) → ⊥) (λ i. f first ≡ f (next i)) (λ i. flip i (same_or_not (f first) (f (next i)))))
   where
     flip : (i : Fin (suc n)) → (f first ≡ f (next i)) ⊎ (f first ≡ f (next i) → ⊥) → (f first ≡ f (next i) → ⊥) ⊎ (f first ≡ f (next i))
     flip i (inl e) = inr e
@@ -51,7 +52,8 @@ pigeons (suc n) f = go (λ g. pigeons n g) (all_or_one (suc n) (λ i. f first �
       meet = punch_inj n (f first) (f (next t.one)) (f (next t.other)) (d t.one) (d t.other) t.meet;
     }
 
-    go : ((g : Fin (suc n) → Fin n) → AreTwoAt g) → ((i : Fin (suc n)) → f first ≡ f (next i) → ⊥) ⊎ ((i : Fin (suc n)) × (f first ≡ f (next i))) → AreTwoAt f
+    go : ((g : Fin (suc n) → Fin n) → AreTwoAt g) → ((i : Fin (suc n)) → f first ≡ f (next i) → ⊥) ⊎ ((i : Fin (suc n)) × (f first ≡ f (next i)))
+        → AreTwoAt f
     go rest (inr p) = record { one = first; other = next p.0; different = first-ne-next p.0; meet = p.1 }
     go rest (inl d) = among_rest d (rest (λ i. punch n (f first) (f (next i)) (d i)))
 

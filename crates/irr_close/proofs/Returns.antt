@@ -16,22 +16,29 @@ use Rattle.irr_seitz.specs.FiniteOrder.{IsFiniteOrder}
 cancel_power : (R S : Rotation) → S · R ≡ unit integers 3 → (n : ℕ) (A B : Rotation) → matrix_power R n · A ≡ matrix_power R n · B → A ≡ B
 unfolding matrix_power
 cancel_power R S e zero A B h = sym (unit-mul A) ∙ h ∙ unit-mul B
-cancel_power R S e (suc n) A B h = cancel_power R S e n A B (back (matrix_power R n · A) (matrix_power R n · B) (sym (mul_assoc R (matrix_power R n) A) ∙ h ∙ mul_assoc R (matrix_power R n) B))
+cancel_power R S e (suc n) A B h =
+    cancel_power R S e n A B (back (matrix_power R n · A) (matrix_power R n · B) (sym (mul_assoc R (matrix_power R n) A) ∙ h
+    ∙ mul_assoc R (matrix_power R n) B))
   where
     back : (X Y : Rotation) → R · X ≡ R · Y → X ≡ Y
-    back X Y p = sym (unit-mul X) ∙ ap (λ (M : Rotation). M · X) (sym e) ∙ mul_assoc S R X ∙ ap (λ (M : Rotation). S · M) p ∙ sym (mul_assoc S R Y) ∙ ap (λ (M : Rotation). M · Y) e ∙ unit-mul Y
+    back X Y p = sym (unit-mul X) ∙ ap (λ (M : Rotation). M · X) (sym e) ∙ mul_assoc S R X ∙ ap (λ (M : Rotation). S · M) p ∙ sym (mul_assoc S R Y)
+        ∙ ap (λ (M : Rotation). M · Y) e ∙ unit-mul Y
 
-pub power_apart : (R S : Rotation) → S · R ≡ unit integers 3 → (a b : ℕ) → a ≤ b → matrix_power R a ≡ matrix_power R b → matrix_power R (b - a) ≡ unit integers 3
+pub power_apart : (R S : Rotation) → S · R ≡ unit integers 3 → (a b : ℕ) → a ≤ b → matrix_power R a ≡ matrix_power R b
+    → matrix_power R (b - a) ≡ unit integers 3
 power_apart R S e a b l h = cancel_power R S e a (matrix_power R (b - a)) (unit integers 3)
-    (sym (matrix_power-add R a (b - a)) ∙ (let k : a + (b - a) ≡ b = omega arith in ap (matrix_power R) k) ∙ sym h ∙ sym (mul-unit (matrix_power R a)))
+    (sym (matrix_power-add R a (b - a)) ∙ (let k : a + (b - a) ≡ b = omega arith in ap (matrix_power R) k) ∙ sym h
+    ∙ sym (mul-unit (matrix_power R a)))
 
 power_multiple : (R : Rotation) (n q : ℕ) → matrix_power R n ≡ unit integers 3 → matrix_power R (n * q) ≡ unit integers 3
 unfolding matrix_power
 power_multiple R n zero e = let k : n * 0 ≡ 0 = omega arith in ap (matrix_power R) k
-power_multiple R n (suc q) e = (let m = Nat.mul-suc n q in let k : n * suc q ≡ n + n * q = omega (arith, m) in ap (matrix_power R) k) ∙ matrix_power-add R n (n * q) ∙ ap (λ (M : Rotation). M · matrix_power R (n * q)) e ∙ unit-mul (matrix_power R (n * q)) ∙ power_multiple R n q e
+power_multiple R n (suc q) e = (let m = Nat.mul-suc n q in let k : n * suc q ≡ n + n * q = omega (arith, m) in ap (matrix_power R) k)
+    ∙ matrix_power-add R n (n * q) ∙ ap (λ (M : Rotation). M · matrix_power R (n * q)) e ∙ unit-mul (matrix_power R (n * q)) ∙ power_multiple R n q e
 
 pub power_rest : (R : Rotation) (n e : ℕ) → matrix_power R n ≡ unit integers 3 → matrix_power R e ≡ matrix_power R (e % n)
-power_rest R n e h = ap (matrix_power R) (sym (Nat.div-add-mod e n)) ∙ matrix_power-add R (n * (e / n)) (e % n) ∙ ap (λ (M : Rotation). M · matrix_power R (e % n)) (power_multiple R n (e / n) h) ∙ unit-mul (matrix_power R (e % n))
+power_rest R n e h = ap (matrix_power R) (sym (Nat.div-add-mod e n)) ∙ matrix_power-add R (n * (e / n)) (e % n)
+    ∙ ap (λ (M : Rotation). M · matrix_power R (e % n)) (power_multiple R n (e / n) h) ∙ unit-mul (matrix_power R (e % n))
 
 pub returns_exactly : (R : Rotation) (n e : ℕ) → IsFiniteOrder R n → (e % n ≡ 0) ↔ (matrix_power R e ≡ unit integers 3)
 unfolding matrix_power

@@ -34,13 +34,18 @@ use Rattle.irr_close.proofs.Seeds.{generated_by_seeds}
 abbrev pub HasGeneratedRotation : List Operation → Rotation → Type 0
 HasGeneratedRotation gens R = (t : Operation) × Generated gens t × (t.rotation ≡ R)
 
-along_rotation : (gens more : List Operation) → ((s : Operation) → Contains gens s → HasGeneratedRotation more s.rotation) → {g : Operation} → Generated gens g → HasGeneratedRotation more g.rotation
+along_rotation : (gens more : List Operation) → ((s : Operation) → Contains gens s → HasGeneratedRotation more s.rotation) → {g : Operation}
+    → Generated gens g → HasGeneratedRotation more g.rotation
 unfolding identity
 along_rotation gens more all one = (identity, one, refl)
 along_rotation gens more all (generator {g} m) = all g m
 along_rotation gens more all (unit_translation i) = (_, unit_translation i, refl)
-along_rotation gens more all (product {g} {h} p q) = let a = along_rotation gens more all p in let b = along_rotation gens more all q in
-    (a.0 ⊙ b.0, product a.1 b.1, product-rotation a.0 b.0 ∙ ap (λ (R : Rotation). R · b.0.rotation) a.2 ∙ ap (λ (R : Rotation). g.rotation · R) b.2 ∙ sym (product-rotation g h))
+along_rotation gens more all (product {g} {h} p q) = let a = along_rotation gens more all p in let b = along_rotation gens more all q in (
+  a.0 ⊙ b.0,
+  product a.1 b.1,
+  product-rotation a.0 b.0 ∙ ap (λ (R : Rotation). R · b.0.rotation) a.2 ∙ ap (λ (R : Rotation). g.rotation · R) b.2
+      ∙ sym (product-rotation g h),
+)
 along_rotation gens more all (inverse {g} {h} e p) = let a = along_rotation gens more all p in inverted a.0 a.1 a.2
   where
     right : (t : Operation) → t.rotation ≡ g.rotation → t.rotation · h.rotation ≡ unit integers 3
@@ -49,11 +54,13 @@ along_rotation gens more all (inverse {g} {h} e p) = let a = along_rotation gens
     inverted : (t : Operation) → Generated more t → t.rotation ≡ g.rotation → HasGeneratedRotation more h.rotation
     inverted t q f = (
       record { rotation = h.rotation; vector = null ⊖ (whole_matrix rationals h.rotation · t.vector) },
-      inverse (inverse_of t (record { rotation = h.rotation; vector = null ⊖ (whole_matrix rationals h.rotation · t.vector) }) (right t f) (adjoint-mul t.rotation h.rotation (right t f)) refl) q,
+      inverse (inverse_of t (record { rotation = h.rotation; vector = null ⊖ (whole_matrix rationals h.rotation · t.vector) }) (right t f)
+          (adjoint-mul t.rotation h.rotation (right t f)) refl) q,
       refl,
     )
 
-pub few_along : (gens more : List Operation) → ((s : Operation) → Contains gens s → HasGeneratedRotation more s.rotation) → HasFewRotations more → HasFewRotations gens
+pub few_along : (gens more : List Operation) → ((s : Operation) → Contains gens s → HasGeneratedRotation more s.rotation) → HasFewRotations more
+    → HasFewRotations gens
 few_along gens more all few = record {
   rotations = few.rotations;
   few = few.few;
@@ -73,7 +80,8 @@ kept_of_seeds gs seeds g from k = record {
 }
 
 pub seeds_small : (gs seeds : List Op) → All (IsOneOf gs) seeds → HasSmallDenominator gs → HasSmallDenominator seeds
-seeds_small gs seeds from c = record { common = c.common; positive = c.positive; small = c.small; multiple = seeds_divide gs seeds c.common from c.multiple }
+seeds_small gs seeds from c =
+    record { common = c.common; positive = c.positive; small = c.small; multiple = seeds_divide gs seeds c.common from c.multiple }
 
 pub seeds_numbers : (gs seeds : List Op) → All (IsOneOf gs) seeds → All IsGenerator gs → All IsGenerator seeds
 seeds_numbers gs seeds from all k d l = let h = from k d l in subst IsGenerator (h.2 d) (all h.0 d h.1)
@@ -91,20 +99,28 @@ module _ (gs seeds kept : List Op) (inv : AreInvertible gs) (s : AreSeeds gs see
   kept_all k d l = kept_of_seeds gs seeds (get_or kept k d) s.from_list (partial.kept k d l)
 
   has_product : (d : Op) (g h : Operation) → Generated (operations gs) g → Generated (operations gs) h → HasRotation kept (g.rotation · h.rotation)
-  has_product d g h p q = subst (HasRotation kept) (product-rotation g h) (rotation_of_generated gs seeds kept inv (seeded_all gs seeds s) partial products d (g ⊙ h) (product p q))
+  has_product d g h p q = subst (HasRotation kept) (product-rotation g h)
+      (rotation_of_generated gs seeds kept inv (seeded_all gs seeds s) partial products d (g ⊙ h) (product p q))
 
   pub kept_generators : HoldsAt (λ g. All (λ s. HasRotation kept ((operation g).rotation · (operation s).rotation)) gs) kept 0
-  kept_generators d k f l = has_product d (operation (get_or kept 0 d)) (operation (get_or gs k f)) (kept_all 0 d partial.nonempty).generated (generated_at gs k f l)
+  kept_generators d k f l = has_product d (operation (get_or kept 0 d)) (operation (get_or gs k f)) (kept_all 0 d partial.nonempty).generated
+      (generated_at gs k f l)
 
   pub kept_products : All (λ g. All (λ h. HasRotation kept ((operation g).rotation · (operation h).rotation)) kept) kept
-  kept_products j d l k f m = has_product d (operation (get_or kept j d)) (operation (get_or kept k f)) (kept_all j d l).generated (kept_all k f m).generated
+  kept_products j d l k f m = has_product d (operation (get_or kept j d)) (operation (get_or kept k f)) (kept_all j d l).generated
+      (kept_all k f m).generated
 
-  kept_inverse : (d : Op) (g : Operation) → Generated (operations gs) g → (k : ℕ) × (k < length kept) × HoldsAt (λ h. g.rotation · (operation h).rotation ≡ unit integers 3) kept k
+  kept_inverse : (d : Op) (g : Operation) → Generated (operations gs) g
+      → (k : ℕ) × (k < length kept) × HoldsAt (λ h. g.rotation · (operation h).rotation ≡ unit integers 3) kept k
   kept_inverse d g p =
       let a = invertible_generated (operations gs) (invertible_operations gs inv) p in
       let t = inverse_operation g a.0 a.1 in
-      let r = rotation_of_generated gs seeds kept inv (seeded_all gs seeds s) partial products d t.0 (inverse t.1 p) in
-      (r.0, r.1, λ f. ap (λ (R : Rotation). g.rotation · R) (r.2 f) ∙ sym (product-rotation g t.0) ∙ ap (λ (h : Operation). h.rotation) t.1.right ∙ identity_rotation)
+      let r = rotation_of_generated gs seeds kept inv (seeded_all gs seeds s) partial products d t.0 (inverse t.1 p) in (
+        r.0,
+        r.1,
+        λ f. ap (λ (R : Rotation). g.rotation · R) (r.2 f) ∙ sym (product-rotation g t.0) ∙ ap (λ (h : Operation). h.rotation) t.1.right
+            ∙ identity_rotation,
+      )
 
   pub kept_rotations : IsRotationGroup kept
   kept_rotations = record {

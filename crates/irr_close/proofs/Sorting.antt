@@ -14,7 +14,8 @@ use Rattle.std.proofs.lemmas.List.{get_or_default}
 use Rattle.std.proofs.lemmas.List.Sorted.{ranks_by, sorted_far, Contains-permutation}
 use Rattle.std.proofs.lemmas.Map.Keys.{IsDistinct-IsPermutation, IsDistinct-from_apart, apart_from_distinct}
 
-module _ {K : Type 0} (L : K → K → Type 0) (irrefl : (x : K) → ¬ (L x x)) (chain : (x y z : K) → L x y → L y z → L x z) (cases : (x y : K) → L x y ⊎ ((x ≡ y) ⊎ L y x)) where
+module _ {K : Type 0} (L : K → K → Type 0) (irrefl : (x : K) → ¬ (L x x)) (chain : (x y z : K) → L x y → L y z → L x z) (cases : (x y : K) → L x y
+    ⊎ ((x ≡ y) ⊎ L y x)) where
   by_case : {x y : K} → L x y ⊎ ((x ≡ y) ⊎ L y x) → Ordering
   by_case (inl l) = Less
   by_case (inr (inl e)) = Equal
@@ -43,7 +44,9 @@ module _ {K : Type 0} (L : K → K → Type 0) (irrefl : (x : K) → ¬ (L x x))
   answers x y r m = ap is_lt (one_rank L irrefl chain x y r (order x y) m (order-ranks x y))
 
   equal_is : (x y : K) → is_eq (order x y) ≡ true → x ≡ y
-  equal_is x y e = by_ranked (L x y) (x ≡ y) (L y x) (order x y) (order-ranks x y) (λ o l. let t : is_eq Less ≡ true = subst (λ r. is_eq r ≡ true) o e in absurd (cc)) (λ o l. l) (λ o l. let t : is_eq Greater ≡ true = subst (λ r. is_eq r ≡ true) o e in absurd (cc))
+  equal_is x y e = by_ranked (L x y) (x ≡ y) (L y x) (order x y) (order-ranks x y)
+      (λ o l. let t : is_eq Less ≡ true = subst (λ r. is_eq r ≡ true) o e in absurd (cc)) (λ o l. l)
+      (λ o l. let t : is_eq Greater ≡ true = subst (λ r. is_eq r ≡ true) o e in absurd (cc))
 
   apart_is : (x y : K) → ¬ (x ≡ y) → is_eq (order x y) ≡ false
   apart_is x y n = by_ranked (L x y) (x ≡ y) (L y x) (order x y) (order-ranks x y) (λ o l. ap is_eq o) (λ o l. absurd (n l)) (λ o l. ap is_eq o)
@@ -55,12 +58,16 @@ module _ {K : Type 0} (L : K → K → Type 0) (irrefl : (x : K) → ¬ (L x x))
       (λ o l. ap is_eq o ∙ sym (apart_is y x (λ e. irrefl x (subst (λ w. L w x) e l))))
 
   not_equal : (x y : K) → is_eq (order x y) ≡ false → ¬ (x ≡ y)
-  not_equal x y e h = by_ranked (L x y) (x ≡ y) (L y x) (order x y) (order-ranks x y) (λ o l. irrefl y (subst (λ w. L w y) h l)) (λ o l. let t : is_eq Equal ≡ false = subst (λ r. is_eq r ≡ false) o e in absurd (cc)) (λ o l. irrefl y (subst (L y) h l))
+  not_equal x y e h = by_ranked (L x y) (x ≡ y) (L y x) (order x y) (order-ranks x y) (λ o l. irrefl y (subst (λ w. L w y) h l))
+      (λ o l. let t : is_eq Equal ≡ false = subst (λ r. is_eq r ≡ false) o e in absurd (cc)) (λ o l. irrefl y (subst (L y) h l))
 
-  pub strictly : {X : Type 0} (f : X → K) (xs ys : List X) → IsPermutation xs ys → AllPairs (λ a b. ¬ (f a ≡ f b)) xs → IsSortedBy (λ a b. is_lt (order (f a) (f b))) ys → AllPairs (λ a b. L (f a) (f b)) ys
-  strictly {X} f xs ys p apart sorted i j d l m = by_ranked (L (f (get_or ys j d)) (f (get_or ys i d))) (f (get_or ys j d) ≡ f (get_or ys i d)) (L (f (get_or ys i d)) (f (get_or ys j d)))
+  pub strictly : {X : Type 0} (f : X → K) (xs ys : List X) → IsPermutation xs ys → AllPairs (λ a b. ¬ (f a ≡ f b)) xs
+      → IsSortedBy (λ a b. is_lt (order (f a) (f b))) ys → AllPairs (λ a b. L (f a) (f b)) ys
+  strictly {X} f xs ys p apart sorted i j d l m = by_ranked (L (f (get_or ys j d)) (f (get_or ys i d))) (f (get_or ys j d) ≡ f (get_or ys i d))
+      (L (f (get_or ys i d)) (f (get_or ys j d)))
       (order (f (get_or ys j d)) (f (get_or ys i d))) (order-ranks (f (get_or ys j d)) (f (get_or ys i d)))
-      (λ o h. let t : is_lt Less ≡ false = subst (λ r. is_lt r ≡ false) o (sorted_far (λ a b. is_lt (order (f a) (f b))) (weak f) ys sorted i j d (omega arith) m) in absurd (cc))
+      (λ o h. let t : is_lt Less ≡ false = subst (λ r. is_lt r ≡ false) o
+      (sorted_far (λ a b. is_lt (order (f a) (f b))) (weak f) ys sorted i j d (omega arith) m) in absurd (cc))
       (λ o h. absurd (differ (sym h)))
       (λ o h. h)
     where
@@ -71,9 +78,11 @@ module _ {K : Type 0} (L : K → K → Type 0) (irrefl : (x : K) → ¬ (L x x))
       distinct = IsDistinct-from_apart test xs (λ i j d l m. apart_is (f (get_or xs i d)) (f (get_or xs j d)) (apart i j d l m))
 
       differ : ¬ (f (get_or ys i d) ≡ f (get_or ys j d))
-      differ = not_equal (f (get_or ys i d)) (f (get_or ys j d)) (apart_from_distinct test ys i j d (IsDistinct-IsPermutation test (λ a b. symmetric (f a) (f b)) xs ys p distinct) l m)
+      differ = not_equal (f (get_or ys i d)) (f (get_or ys j d))
+          (apart_from_distinct test ys i j d (IsDistinct-IsPermutation test (λ a b. symmetric (f a) (f b)) xs ys p distinct) l m)
 
-pub exists_permuted : {X : Type 0} (P : X → Type 0) (xs ys : List X) → IsPermutation xs ys → (k : ℕ) → k < length xs → HoldsAt P xs k → (n : ℕ) × (n < length ys) × HoldsAt P ys n
+pub exists_permuted : {X : Type 0} (P : X → Type 0) (xs ys : List X) → IsPermutation xs ys → (k : ℕ) → k < length xs → HoldsAt P xs k
+    → (n : ℕ) × (n < length ys) × HoldsAt P ys n
 exists_permuted P [] ys p k l h = absurd (omega arith)
 exists_permuted P (x ∷ xs) ys p k l h =
     let a = get_or (x ∷ xs) k x in

@@ -34,7 +34,8 @@ use Rattle.irr_close.proofs.Lattice.{invertible_operations, translation_modulo}
 
 -- a generator by its place
 pub contained_place : (gs : List Op) (s : Operation) (d : Op) (m : Contains (operations gs) s) → (m.0 < length gs) × (operation (get_or gs m.0 d) ≡ s)
-contained_place gs s d m = let l : m.0 < length gs = subst (λ n. m.0 < n) (length-map gs operation) m.1 in (l, sym (get_or-map operation gs m.0 d s l) ∙ m.2)
+contained_place gs s d m = let l : m.0 < length gs = subst (λ n. m.0 < n) (length-map gs operation) m.1 in
+    (l, sym (get_or-map operation gs m.0 d s l) ∙ m.2)
 
 -- the kept operations by index, where d stands past the end of the list
 abbrev pub indexed : (ops : List Op) → Op → Fin (length ops) → Operation
@@ -43,7 +44,8 @@ indexed ops d i = operation (get_or ops (to_nat i) d)
 pub indexed-from_nat : (ops : List Op) (d : Op) (k : ℕ) (l : k < length ops) → indexed ops d (from_nat (length ops) k l) ≡ operation (get_or ops k d)
 indexed-from_nat ops d k l = ap (λ n. operation (get_or ops n d)) (to_nat-from_nat (length ops) k l)
 
-indexed_distinct : (ops : List Op) (d : Op) → AllPairs (λ g h. ¬ ((operation g).rotation ≡ (operation h).rotation)) ops → (i j : Fin (length ops)) → (indexed ops d i).rotation ≡ (indexed ops d j).rotation → i ≡ j
+indexed_distinct : (ops : List Op) (d : Op) → AllPairs (λ g h. ¬ ((operation g).rotation ≡ (operation h).rotation)) ops → (i j : Fin (length ops))
+    → (indexed ops d i).rotation ≡ (indexed ops d j).rotation → i ≡ j
 indexed_distinct ops d apart i j e = elim (cases_lt (to_nat i) (to_nat j)) [
   | inl less ↦ absurd (apart (to_nat i) (to_nat j) d less (to_nat-lt j) e)
   | inr more ↦ elim (cases_lt (to_nat j) (to_nat i)) [
@@ -53,12 +55,14 @@ indexed_distinct ops d apart i j e = elim (cases_lt (to_nat i) (to_nat j)) [
 ]
 
 -- the rotations of the generators are among those of the seeds, and the kept operations have the products with these
-module _ (gs seeds kept : List Op) (inv : AreInvertible gs) (seeded : All (λ s. HasRotation seeds (operation s).rotation) gs) (partial : IsPartial seeds kept)
+module _ (gs seeds kept : List Op) (inv : AreInvertible gs) (seeded : All (λ s. HasRotation seeds (operation s).rotation) gs)
+    (partial : IsPartial seeds kept)
     (products : All (λ g. HasProducts kept (operation g).rotation seeds (length seeds)) kept) (d : Op) where
   -- the product of a kept operation and a generator has a kept rotation
   product_kept : (i : Fin (length kept)) (s : Operation) → Contains (operations gs) s → HasRotation kept ((indexed kept d i).rotation · s.rotation)
   product_kept i s m = let p = contained_place gs s d m in let h = seeded m.0 d p.0 in
-      subst (λ (R : Rotation). HasRotation kept ((indexed kept d i).rotation · R)) (h.2 d ∙ ap (λ (g : Operation). g.rotation) p.1) (products (to_nat i) d (to_nat-lt i) h.0 h.1 d)
+      subst (λ (R : Rotation). HasRotation kept ((indexed kept d i).rotation · R)) (h.2 d ∙ ap (λ (g : Operation). g.rotation) p.1)
+      (products (to_nat i) d (to_nat-lt i) h.0 h.1 d)
 
   rotations_closed : IsClosed (operations gs) (length kept) (indexed kept d) (λ v. Unit {0})
   rotations_closed = record {
@@ -75,8 +79,12 @@ module _ (gs seeds kept : List Op) (inv : AreInvertible gs) (seeded : All (λ s.
 
   -- each generated rotation is kept
   pub rotation_of_generated : (g : Operation) → Generated (operations gs) g → HasRotation kept g.rotation
-  rotation_of_generated g h = let t = stood_of_generated (operations gs) (length kept) (indexed kept d) (λ v. Unit {0}) rotations_closed g h in
-      (to_nat t.place, to_nat-lt t.place, λ f. ap (λ (x : Op). (operation x).rotation) (get_or_default kept (to_nat t.place) f d (to_nat-lt t.place)) ∙ sym t.same_rotation)
+  rotation_of_generated g h = let t = stood_of_generated (operations gs) (length kept) (indexed kept d) (λ v. Unit {0}) rotations_closed g h in (
+    to_nat t.place,
+    to_nat-lt t.place,
+    λ f. ap (λ (x : Op). (operation x).rotation) (get_or_default kept (to_nat t.place) f d (to_nat-lt t.place))
+        ∙ sym t.same_rotation,
+  )
 
 -- differences of vectors up to translations of a list
 regrouped : (a b c e f : Vector) → IsWholeVector (a ⊖ c) → IsWholeVector (b ⊖ e) → IsWholeVector ((c ⊖ e) ⊖ f) → IsWholeVector ((a ⊖ b) ⊖ f)
@@ -84,7 +92,8 @@ unfolding component ◌⊖◌
 regrouped a b c e f p q r i = subst IsWhole (entry rationals (a.at i first) (b.at i first) (c.at i first) (e.at i first) (f.at i first))
     (whole-add _ _ (p i) (whole-add _ _ (whole-neg _ (q i)) (r i)))
   where
-    entry : (R : Ring) (x y z w u : R.Carrier) → R.add (R.add x (R.neg z)) (R.add (R.neg (R.add y (R.neg w))) (R.add (R.add z (R.neg w)) (R.neg u))) ≡ R.add (R.add x (R.neg y)) (R.neg u)
+    entry : (R : Ring) (x y z w u : R.Carrier)
+        → R.add (R.add x (R.neg z)) (R.add (R.neg (R.add y (R.neg w))) (R.add (R.add z (R.neg w)) (R.neg u))) ≡ R.add (R.add x (R.neg y)) (R.neg u)
     entry R x y z w u = simp (ring_laws, R)
 
 -- a list of translations with 0 and with its differences
@@ -126,7 +135,8 @@ by_way_of a r s v = matrix-ext (λ i j. entry rationals (a.at i j) (r.at i j) (s
     entry : (R : Ring) (x y z w : R.Carrier) → R.add (R.add (R.add x y) (R.neg w)) (R.add z (R.neg y)) ≡ R.add (R.add x z) (R.neg w)
     entry R x y z w = simp (ring_laws, R)
 
-pub same_index : (ops : List Op) (d : Op) → AllPairs (λ g h. ¬ ((operation g).rotation ≡ (operation h).rotation)) ops → (i j : ℕ) → i < length ops → j < length ops
+pub same_index : (ops : List Op) (d : Op) → AllPairs (λ g h. ¬ ((operation g).rotation ≡ (operation h).rotation)) ops → (i j : ℕ) → i < length ops
+    → j < length ops
     → (operation (get_or ops i d)).rotation ≡ (operation (get_or ops j d)).rotation → i ≡ j
 same_index ops d apart i j l m e = elim (cases_lt i j) [
   | inl less ↦ absurd (apart i j d less m e)
@@ -146,15 +156,22 @@ unfolding ◌⊙◌
 product-vector g h = refl
 
 -- the kept operations with the identity first and no rotation twice, and a settled list of translations
-module _ (gs seeds kept : List Op) (cs : List Vec3) (inv : AreInvertible gs) (partial : IsPartial seeds kept) (lattice : IsPartialLattice gs cs) (settled : IsSettled gs kept cs (length cs)) (d : Op) (e : Vec3) where
+module _ (gs seeds kept : List Op) (cs : List Vec3) (inv : AreInvertible gs) (partial : IsPartial seeds kept) (lattice : IsPartialLattice gs cs)
+    (settled : IsSettled gs kept cs (length cs)) (d : Op) (e : Vec3) where
   sum_in : (a b : Vector) → HasTranslation cs a → HasTranslation cs b → HasTranslation cs (a ⊕ b)
-  sum_in a b p q = subst (HasTranslation cs) (sum_as_difference a b) (difference_in gs kept cs lattice settled e a (null ⊖ b) p (difference_in gs kept cs lattice settled e null b (whole_in gs kept cs lattice settled e null null_whole) q))
+  sum_in a b p q = subst (HasTranslation cs) (sum_as_difference a b)
+      (difference_in gs kept cs lattice settled e a (null ⊖ b) p
+      (difference_in gs kept cs lattice settled e null b (whole_in gs kept cs lattice settled e null null_whole) q))
 
   -- a translation of the list, turned by a kept rotation
-  turned_listed : (i k : ℕ) → i < length kept → k < length cs → HasTranslation cs (whole_matrix rationals (operation (get_or kept i d)).rotation · vector (get_or cs k e))
+  turned_listed : (i k : ℕ) → i < length kept → k < length cs
+      → HasTranslation cs (whole_matrix rationals (operation (get_or kept i d)).rotation · vector (get_or cs k e))
   turned_listed i k l m = subst (HasTranslation cs)
-      (ap (λ (v : Vector). v ⊖ (operation (get_or kept i d)).vector) (turned-vector (operation (get_or kept i d)) (vector (get_or cs k e))) ∙ cancelled_first (operation (get_or kept i d)).vector (whole_matrix rationals (operation (get_or kept i d)).rotation · vector (get_or cs k e)))
-      (subst (λ n. HasTranslation cs ((operation (get_or kept i d) ⊙ translation (vector (get_or cs k e))).vector ⊖ (operation (get_or kept n d)).vector)) here (q.2 d).1)
+      (ap (λ (v : Vector). v ⊖ (operation (get_or kept i d)).vector) (turned-vector (operation (get_or kept i d)) (vector (get_or cs k e)))
+      ∙ cancelled_first (operation (get_or kept i d)).vector
+      (whole_matrix rationals (operation (get_or kept i d)).rotation · vector (get_or cs k e)))
+      (subst (λ n. HasTranslation cs
+      ((operation (get_or kept i d) ⊙ translation (vector (get_or cs k e))).vector ⊖ (operation (get_or kept n d)).vector)) here (q.2 d).1)
     where
       q : HasQuotient kept cs (operation (get_or kept i d)) (translation (vector (get_or cs k e)))
       q = settled.turned k m e i d l
@@ -162,14 +179,18 @@ module _ (gs seeds kept : List Op) (cs : List Vec3) (inv : AreInvertible gs) (pa
       here : q.0 ≡ i
       here = same_index kept d partial.distinct q.0 i q.1 l ((q.2 d).0 ∙ turned-rotation (operation (get_or kept i d)) (vector (get_or cs k e)))
 
-  turned_in : (i : ℕ) (v : Vector) → i < length kept → HasTranslation cs v → HasTranslation cs (whole_matrix rationals (operation (get_or kept i d)).rotation · v)
-  turned_in i v l h = shifted cs (whole_matrix rationals (operation (get_or kept i d)).rotation · vector (get_or cs h.0 e)) (whole_matrix rationals (operation (get_or kept i d)).rotation · v)
+  turned_in : (i : ℕ) (v : Vector) → i < length kept → HasTranslation cs v
+      → HasTranslation cs (whole_matrix rationals (operation (get_or kept i d)).rotation · v)
+  turned_in i v l h = shifted cs (whole_matrix rationals (operation (get_or kept i d)).rotation · vector (get_or cs h.0 e))
+      (whole_matrix rationals (operation (get_or kept i d)).rotation · v)
       (subst IsWholeVector (mul-sub (whole_matrix rationals (operation (get_or kept i d)).rotation) v (vector (get_or cs h.0 e)))
       (turned_whole (operation (get_or kept i d)).rotation (v ⊖ vector (get_or cs h.0 e)) (h.2 e)))
       (turned_listed i h.0 l h.1)
 
   -- a generator is a kept operation after a translation of the list
-  kept_of_generator : (s : Operation) → Contains (operations gs) s → (k : ℕ) × (k < length kept) × ((operation (get_or kept k d)).rotation ≡ s.rotation) × HasTranslation cs (s.vector ⊖ (operation (get_or kept k d)).vector)
+  kept_of_generator : (s : Operation) → Contains (operations gs) s
+      → (k : ℕ) × (k < length kept) × ((operation (get_or kept k d)).rotation ≡ s.rotation)
+      × HasTranslation cs (s.vector ⊖ (operation (get_or kept k d)).vector)
   kept_of_generator s m = (
     q.0,
     q.1,
@@ -186,27 +207,37 @@ module _ (gs seeds kept : List Op) (cs : List Vec3) (inv : AreInvertible gs) (pa
 
   -- so is the product of a kept operation and a generator
   next_kept : (i : ℕ) (s : Operation) → i < length kept → Contains (operations gs) s
-      → (k : ℕ) × (k < length kept) × ((operation (get_or kept k d)).rotation ≡ (operation (get_or kept i d)).rotation · s.rotation) × HasTranslation cs ((operation (get_or kept i d) ⊙ s).vector ⊖ (operation (get_or kept k d)).vector)
+      → (k : ℕ) × (k < length kept) × ((operation (get_or kept k d)).rotation ≡ (operation (get_or kept i d)).rotation · s.rotation)
+      × HasTranslation cs ((operation (get_or kept i d) ⊙ s).vector ⊖ (operation (get_or kept k d)).vector)
   next_kept i s l m = (
     q.0,
     q.1,
     (q.2 d).0 ∙ ap (λ (R : Rotation). (operation (get_or kept i d)).rotation · R) t.2,
     subst (HasTranslation cs) all
-        (sum_in ((operation (get_or kept i d) ⊙ operation (get_or kept t.0 d)).vector ⊖ (operation (get_or kept q.0 d)).vector) (whole_matrix rationals (operation (get_or kept i d)).rotation · (s.vector ⊖ (operation (get_or kept t.0 d)).vector))
+        (sum_in ((operation (get_or kept i d) ⊙ operation (get_or kept t.0 d)).vector ⊖ (operation (get_or kept q.0 d)).vector)
+        (whole_matrix rationals (operation (get_or kept i d)).rotation · (s.vector ⊖ (operation (get_or kept t.0 d)).vector))
         (q.2 d).1 (turned_in i (s.vector ⊖ (operation (get_or kept t.0 d)).vector) l t.3)),
   )
     where
-      t : (k : ℕ) × (k < length kept) × ((operation (get_or kept k d)).rotation ≡ s.rotation) × HasTranslation cs (s.vector ⊖ (operation (get_or kept k d)).vector)
+      t : (k : ℕ) × (k < length kept) × ((operation (get_or kept k d)).rotation ≡ s.rotation)
+          × HasTranslation cs (s.vector ⊖ (operation (get_or kept k d)).vector)
       t = kept_of_generator s m
 
       q : HasQuotient kept cs (operation (get_or kept i d)) (operation (get_or kept t.0 d))
       q = settled.gathered.products_in i l d t.0 d t.1
 
-      all : ((operation (get_or kept i d) ⊙ operation (get_or kept t.0 d)).vector ⊖ (operation (get_or kept q.0 d)).vector) ⊕ (whole_matrix rationals (operation (get_or kept i d)).rotation · (s.vector ⊖ (operation (get_or kept t.0 d)).vector))
+      all : ((operation (get_or kept i d) ⊙ operation (get_or kept t.0 d)).vector ⊖ (operation (get_or kept q.0 d)).vector) ⊕
+          (whole_matrix rationals (operation (get_or kept i d)).rotation · (s.vector ⊖ (operation (get_or kept t.0 d)).vector))
           ≡ (operation (get_or kept i d) ⊙ s).vector ⊖ (operation (get_or kept q.0 d)).vector
-      all = ap (λ (v : Vector). ((operation (get_or kept i d) ⊙ operation (get_or kept t.0 d)).vector ⊖ (operation (get_or kept q.0 d)).vector) ⊕ v) (mul-sub (whole_matrix rationals (operation (get_or kept i d)).rotation) s.vector (operation (get_or kept t.0 d)).vector)
-          ∙ ap (λ (v : Vector). (v ⊖ (operation (get_or kept q.0 d)).vector) ⊕ ((whole_matrix rationals (operation (get_or kept i d)).rotation · s.vector) ⊖ (whole_matrix rationals (operation (get_or kept i d)).rotation · (operation (get_or kept t.0 d)).vector))) (product-vector (operation (get_or kept i d)) (operation (get_or kept t.0 d)))
-          ∙ by_way_of (operation (get_or kept i d)).vector (whole_matrix rationals (operation (get_or kept i d)).rotation · (operation (get_or kept t.0 d)).vector) (whole_matrix rationals (operation (get_or kept i d)).rotation · s.vector) (operation (get_or kept q.0 d)).vector
+      all = ap (λ (v : Vector). ((operation (get_or kept i d) ⊙ operation (get_or kept t.0 d)).vector ⊖ (operation (get_or kept q.0 d)).vector) ⊕ v)
+          (mul-sub (whole_matrix rationals (operation (get_or kept i d)).rotation) s.vector (operation (get_or kept t.0 d)).vector)
+          ∙ ap (λ (v : Vector). (v ⊖ (operation (get_or kept q.0 d)).vector) ⊕
+          ((whole_matrix rationals (operation (get_or kept i d)).rotation · s.vector) ⊖ (whole_matrix rationals
+          (operation (get_or kept i d)).rotation · (operation (get_or kept t.0 d)).vector)))
+          (product-vector (operation (get_or kept i d)) (operation (get_or kept t.0 d)))
+          ∙ by_way_of (operation (get_or kept i d)).vector
+          (whole_matrix rationals (operation (get_or kept i d)).rotation · (operation (get_or kept t.0 d)).vector)
+          (whole_matrix rationals (operation (get_or kept i d)).rotation · s.vector) (operation (get_or kept q.0 d)).vector
           ∙ ap (λ (v : Vector). v ⊖ (operation (get_or kept q.0 d)).vector) (sym (product-vector (operation (get_or kept i d)) s))
 
   closed : IsClosed (operations gs) (length kept) (indexed kept d) (HasTranslation cs)
@@ -217,18 +248,25 @@ module _ (gs seeds kept : List Op) (cs : List Vec3) (inv : AreInvertible gs) (pa
     unit_kept = indexed-from_nat kept d 0 partial.nonempty ∙ partial.identity_first d;
     distinct = indexed_distinct kept d partial.distinct;
     next_place = λ i s m. let h = next_kept (to_nat i) s (to_nat-lt i) m in from_nat (length kept) h.0 h.1;
-    next_rotation = λ i s m. let h = next_kept (to_nat i) s (to_nat-lt i) m in sym (ap (λ (g : Operation). g.rotation) (indexed-from_nat kept d h.0 h.1) ∙ h.2);
+    next_rotation = λ i s m. let h = next_kept (to_nat i) s (to_nat-lt i)
+        m in sym (ap (λ (g : Operation). g.rotation) (indexed-from_nat kept d h.0 h.1) ∙ h.2);
     next_vector = λ i s m. let h = next_kept (to_nat i) s (to_nat-lt i) m in
         subst (λ (g : Operation). HasTranslation cs ((indexed kept d i ⊙ s).vector ⊖ g.vector)) (sym (indexed-from_nat kept d h.0 h.1)) h.3;
     invertible = invertible_operations gs inv;
   }
 
   lattice_generated : (v : Vector) → HasTranslation cs v → Generated (operations gs) (translation v)
-  lattice_generated v h = translation_modulo (operations gs) (vector (get_or cs h.0 e)) v (whole_flipped v (vector (get_or cs h.0 e)) (h.2 e)) (lattice.centrings h.0 e h.1).generated
+  lattice_generated v h = translation_modulo (operations gs) (vector (get_or cs h.0 e)) v (whole_flipped v (vector (get_or cs h.0 e)) (h.2 e))
+      (lattice.centrings h.0 e h.1).generated
 
   -- the kept operations and translations stand for exactly the generated operations
-  pub stands_for_generated : All (λ g. Generated (operations gs) (operation g)) kept → (g : Operation) → StandFor kept cs g ↔ Generated (operations gs) g
-  stands_for_generated kept_generated g = (λ h. generated_of_stood (operations gs) (length kept) (indexed kept d) (HasTranslation cs) (λ i. kept_generated (to_nat i) d (to_nat-lt i)) lattice_generated g (stood h), λ h. back (stood_of_generated (operations gs) (length kept) (indexed kept d) (HasTranslation cs) closed g h))
+  pub stands_for_generated : All (λ g. Generated (operations gs) (operation g)) kept → (g : Operation)
+      → StandFor kept cs g ↔ Generated (operations gs) g
+  stands_for_generated kept_generated g = (
+    λ h. generated_of_stood (operations gs) (length kept) (indexed kept d) (HasTranslation cs) (λ i. kept_generated (to_nat i) d (to_nat-lt i))
+        lattice_generated g (stood h),
+    λ h. back (stood_of_generated (operations gs) (length kept) (indexed kept d) (HasTranslation cs) closed g h),
+  )
     where
       stood : StandFor kept cs g → IsStoodFor (indexed kept d) (HasTranslation cs) g
       stood h = record {
@@ -241,6 +279,9 @@ module _ (gs seeds kept : List Op) (cs : List Vec3) (inv : AreInvertible gs) (pa
       back t = (
         to_nat t.place,
         to_nat-lt t.place,
-        λ f. let same = ap operation (get_or_default kept (to_nat t.place) d f (to_nat-lt t.place)) in
-            (t.same_rotation ∙ ap (λ (x : Operation). x.rotation) same, subst (λ (x : Operation). HasTranslation cs (g.vector ⊖ x.vector)) same t.in_lattice),
+        λ f. let same = ap operation (get_or_default kept (to_nat t.place) d f (to_nat-lt t.place)) in (
+          t.same_rotation ∙ ap (λ (x : Operation). x.rotation) same,
+          subst (λ (x : Operation). HasTranslation cs (g.vector ⊖ x.vector)) same
+              t.in_lattice,
+        ),
       )

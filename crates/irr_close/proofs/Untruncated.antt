@@ -47,10 +47,18 @@ stable_fraction_lt : (x y : Rational) → ¬ (¬ (x <ℚ y)) → x <ℚ y
 stable_fraction_lt x y h = elim (le_or_lt y x) [ inl l ↦ absurd (h (λ k. not_le_of_lt x y k l)) | inr k ↦ k ]
 
 stable_cell : (v : Vector) → ¬ (¬ (IsInCell v)) → IsInCell v
-stable_cell v h i = (stable_fraction_le rationals.zero (component v i) (λ n. h (λ c. n (c i).0)), stable_fraction_lt (component v i) rationals.one (λ n. h (λ c. n (c i).1)))
+stable_cell v h i = (
+  stable_fraction_le rationals.zero (component v i) (λ n. h (λ c. n (c i).0)),
+  stable_fraction_lt (component v i) rationals.one
+      (λ n. h (λ c. n (c i).1)),
+)
 
 stable_at_most : (v w : Vector) → ¬ (¬ (IsAtMost (component v) (component w))) → IsAtMost (component v) (component w)
-stable_at_most v w h = elim (at_most_or_above 3 (component v) (component w)) [ inl l ↦ l | inr k ↦ absurd (h (λ l. not_below_of_at_most (component v) (component w) l k)) ]
+stable_at_most v w h =
+    elim (at_most_or_above 3 (component v) (component w)) [
+      | inl l ↦ l
+      | inr k ↦ absurd (h (λ l. not_below_of_at_most (component v) (component w) l k))
+    ]
 
 -- a search below n
 pub search_below : (P : ℕ → Type 0) → ((k : ℕ) → P k ⊎ ¬ (P k)) → (n : ℕ) → ((k : ℕ) × (k < n) × P k) ⊎ ((k : ℕ) → k < n → ¬ (P k))
@@ -76,10 +84,11 @@ whole_or_not v = elim (whole_decide (component v first)) [
 ]
 
 pub translation_or_not : (cs : List Vec3) (e : Vec3) (t : Vector) → HasTranslation cs t ⊎ ¬ (HasTranslation cs t)
-translation_or_not cs e t = elim (search_below (λ k. IsWholeVector (t ⊖ vector (get_or cs k e))) (λ k. whole_or_not (t ⊖ vector (get_or cs k e))) (length cs)) [
-  | inl s ↦ inl (s.0, s.1, λ f. subst (λ (x : Vec3). IsWholeVector (t ⊖ vector x)) (get_or_default cs s.0 e f s.1) s.2)
-  | inr none ↦ inr (λ h. none h.0 h.1 (h.2 e))
-]
+translation_or_not cs e t =
+    elim (search_below (λ k. IsWholeVector (t ⊖ vector (get_or cs k e))) (λ k. whole_or_not (t ⊖ vector (get_or cs k e))) (length cs)) [
+      | inl s ↦ inl (s.0, s.1, λ f. subst (λ (x : Vec3). IsWholeVector (t ⊖ vector x)) (get_or_default cs s.0 e f s.1) s.2)
+      | inr none ↦ inr (λ h. none h.0 h.1 (h.2 e))
+    ]
 
 pub same_or_not : (R S : Rotation) → (R ≡ S) ⊎ ¬ (R ≡ S)
 same_or_not R S = elim (rotation_cases R S) [
@@ -89,7 +98,12 @@ same_or_not R S = elim (rotation_cases R S) [
 
 pub stand_or_not : (ops : List Op) (cs : List Vec3) (d : Op) (e : Vec3) (g : Operation) → StandFor ops cs g ⊎ ¬ (StandFor ops cs g)
 stand_or_not ops cs d e g = elim (search_below P decide (length ops)) [
-  | inl s ↦ inl (s.0, s.1, λ f. subst (λ (x : Op). (g.rotation ≡ (operation x).rotation) × HasTranslation cs (g.vector ⊖ (operation x).vector)) (get_or_default ops s.0 d f s.1) s.2)
+  | inl s ↦ inl (
+    s.0,
+    s.1,
+    λ f. subst (λ (x : Op). (g.rotation ≡ (operation x).rotation) × HasTranslation cs (g.vector ⊖ (operation x).vector))
+        (get_or_default ops s.0 d f s.1) s.2,
+  )
   | inr none ↦ inr (λ h. none h.0 h.1 (h.2 d))
 ]
   where
@@ -99,20 +113,26 @@ stand_or_not ops cs d e g = elim (search_below P decide (length ops)) [
     decide : (k : ℕ) → P k ⊎ ¬ (P k)
     decide k = elim (same_or_not g.rotation (operation (get_or ops k d)).rotation) [
       | inr denied ↦ inr (λ h. denied h.0)
-      | inl same ↦ elim (translation_or_not cs e (g.vector ⊖ (operation (get_or ops k d)).vector)) [ inl t ↦ inl (same, t) | inr denied ↦ inr (λ h. denied h.1) ]
+      | inl same ↦ elim (translation_or_not cs e (g.vector ⊖ (operation (get_or ops k d)).vector))
+          [ inl t ↦ inl (same, t) | inr denied ↦ inr (λ h. denied h.1) ]
     ]
 
 rotation_or_not : (ops : List Op) (d : Op) (R : Rotation) → HasRotation ops R ⊎ ¬ (HasRotation ops R)
-rotation_or_not ops d R = elim (search_below (λ k. (operation (get_or ops k d)).rotation ≡ R) (λ k. same_or_not (operation (get_or ops k d)).rotation R) (length ops)) [
-  | inl s ↦ inl (s.0, s.1, λ f. subst (λ (x : Op). (operation x).rotation ≡ R) (get_or_default ops s.0 d f s.1) s.2)
-  | inr none ↦ inr (λ h. none h.0 h.1 (h.2 d))
-]
+rotation_or_not ops d R =
+    elim (search_below (λ k. (operation (get_or ops k d)).rotation ≡ R) (λ k. same_or_not (operation (get_or ops k d)).rotation R) (length ops)) [
+      | inl s ↦ inl (s.0, s.1, λ f. subst (λ (x : Op). (operation x).rotation ≡ R) (get_or_default ops s.0 d f s.1) s.2)
+      | inr none ↦ inr (λ h. none h.0 h.1 (h.2 d))
+    ]
 
-inverse_or_not : (ops : List Op) (d : Op) (R : Rotation) → ((k : ℕ) × (k < length ops) × HoldsAt (λ h. R · (operation h).rotation ≡ unit integers 3) ops k) ⊎ ¬ ((k : ℕ) × (k < length ops) × HoldsAt (λ h. R · (operation h).rotation ≡ unit integers 3) ops k)
-inverse_or_not ops d R = elim (search_below (λ k. R · (operation (get_or ops k d)).rotation ≡ unit integers 3) (λ k. same_or_not (R · (operation (get_or ops k d)).rotation) (unit integers 3)) (length ops)) [
-  | inl s ↦ inl (s.0, s.1, λ f. subst (λ (x : Op). R · (operation x).rotation ≡ unit integers 3) (get_or_default ops s.0 d f s.1) s.2)
-  | inr none ↦ inr (λ h. none h.0 h.1 (h.2 d))
-]
+inverse_or_not : (ops : List Op) (d : Op) (R : Rotation)
+    → ((k : ℕ) × (k < length ops) × HoldsAt (λ h. R · (operation h).rotation ≡ unit integers 3) ops k)
+    ⊎ ¬ ((k : ℕ) × (k < length ops) × HoldsAt (λ h. R · (operation h).rotation ≡ unit integers 3) ops k)
+inverse_or_not ops d R =
+    elim (search_below (λ k. R · (operation (get_or ops k d)).rotation ≡ unit integers 3)
+    (λ k. same_or_not (R · (operation (get_or ops k d)).rotation) (unit integers 3)) (length ops)) [
+      | inl s ↦ inl (s.0, s.1, λ f. subst (λ (x : Op). R · (operation x).rotation ≡ unit integers 3) (get_or_default ops s.0 d f s.1) s.2)
+      | inr none ↦ inr (λ h. none h.0 h.1 (h.2 d))
+    ]
 
 pub stable : {A : Type 0} → A ⊎ ¬ A → ¬ (¬ A) → A
 stable (inl a) h = a
@@ -145,13 +165,17 @@ module _ (ops : List Op) (cs : List Vec3) (form : ∥ AreCanonical ops cs ∥₁
   numbering f = record {
     canonical = canonical f;
     member = λ i. tt;
-    all = λ g c p. let i = from_nat (length ops) c.member.0 c.member.1 in
-        (i, one_canonical (StandFor ops cs) (numbered ops f i) g (canonical f i) c (ap (λ n. (operation (get_or ops n f)).rotation) (to_nat-from_nat (length ops) c.member.0 c.member.1) ∙ sym (c.member.2 f).0));
+    all = λ g c p. let i = from_nat (length ops) c.member.0 c.member.1 in (
+      i,
+      one_canonical (StandFor ops cs) (numbered ops f i) g (canonical f i) c
+          (ap (λ n. (operation (get_or ops n f)).rotation) (to_nat-from_nat (length ops) c.member.0 c.member.1) ∙ sym (c.member.2 f).0),
+    );
     ordered = λ i j l. elim (numbered_cases (numbered ops f i).rotation (numbered ops f j).rotation) [
       | inl b ↦ b
       | inr c ↦ absurd (know (λ t. (t.numbering f).ordered i j l) (λ b. elim c [
         | inl e ↦ numbered_irrefl (numbered ops f i).rotation (subst (λ R. IsNumberedBefore (numbered ops f i).rotation R) (sym e) b)
-        | inr a ↦ numbered_irrefl (numbered ops f i).rotation (numbered_chain (numbered ops f i).rotation (numbered ops f j).rotation (numbered ops f i).rotation b a)
+        | inr a ↦ numbered_irrefl (numbered ops f i).rotation
+            (numbered_chain (numbered ops f i).rotation (numbered ops f j).rotation (numbered ops f i).rotation b a)
       ]))
     ];
   }
@@ -166,7 +190,8 @@ module _ (ops : List Op) (cs : List Vec3) (form : ∥ AreCanonical ops cs ∥₁
     ordered = λ i j a b l m. elim (vector_cases (vector (get_or cs i a)) (vector (get_or cs j b))) [
       | inl h ↦ h
       | inr c ↦ absurd (know (λ t. t.centrings.ordered i j a b l m) (λ h. elim c [
-        | inl e ↦ vector_irrefl (vector (get_or cs i a)) (subst (λ (v : Vector). IsBelow (component (vector (get_or cs i a))) (component v)) (sym e) h)
+        | inl e ↦ vector_irrefl (vector (get_or cs i a)) (subst (λ (v : Vector). IsBelow (component (vector (get_or cs i a))) (component v)) (sym e)
+            h)
         | inr k ↦ vector_irrefl (vector (get_or cs i a)) (vector_chain (vector (get_or cs i a)) (vector (get_or cs j b)) (vector (get_or cs i a)) h k)
       ]))
     ];
@@ -184,7 +209,8 @@ module _ (ops : List Op) (cs : List Vec3) (form : ∥ AreCanonical ops cs ∥₁
     denominator = ∥∥₁_elim form squash₁ (λ t. t.denominator);
     rotations = record {
       has_unit = stable (rotation_or_not ops (first_of ops nonempty) (unit integers 3)) (know (λ t. t.rotations.has_unit));
-      products = λ k f l j b m. stable (rotation_or_not ops f ((operation (get_or ops k f)).rotation · (operation (get_or ops j b)).rotation)) (know (λ t. t.rotations.products k f l j b m));
+      products = λ k f l j b m. stable (rotation_or_not ops f ((operation (get_or ops k f)).rotation · (operation (get_or ops j b)).rotation))
+          (know (λ t. t.rotations.products k f l j b m));
       inverses = λ k f l. stable (inverse_or_not ops f (operation (get_or ops k f)).rotation) (know (λ t. t.rotations.inverses k f l));
     };
     lattice = record {

@@ -48,7 +48,8 @@ pub record IsNumberedFrom (cs : List Vec3) (ops new : List Op) : Type 0 where
   pub made : List Op
   pub canonical : AreCanonicalOf cs ops made (length ops)
   pub permuted : IsPermutation made new
-  pub ordered : AllPairs (λ g h. ¬ ((operation g).rotation ≡ (operation h).rotation)) ops → AllPairs (λ g h. IsNumberedBefore (operation g).rotation (operation h).rotation) new
+  pub ordered : AllPairs (λ g h. ¬ ((operation g).rotation ≡ (operation h).rotation)) ops
+      → AllPairs (λ g h. IsNumberedBefore (operation g).rotation (operation h).rotation) new
 
 pub record IsSortedFrom (old new : List Vec3) : Type 0 where
   pub permuted : IsPermutation old new

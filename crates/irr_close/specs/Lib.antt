@@ -8,3 +8,4 @@ pub mod Canonical
 pub mod Bare
 pub mod StandsFor
 pub mod Exponent
+pub mod Distinct

@@ -10,4 +10,5 @@ use Rattle.irr_seitz.specs.declared.op.Op.{Op}
 use Rattle.irr_close.specs.Centring.{HasTranslation}
 
 abbrev pub StandFor : List Op → List Vec3 → Operation → Type 0
-StandFor ops cs g = (k : ℕ) × (k < length ops) × HoldsAt (λ m. (g.rotation ≡ (operation m).rotation) × HasTranslation cs (g.vector ⊖ (operation m).vector)) ops k
+StandFor ops cs g = (k : ℕ) × (k < length ops)
+    × HoldsAt (λ m. (g.rotation ≡ (operation m).rotation) × HasTranslation cs (g.vector ⊖ (operation m).vector)) ops k

@@ -13,6 +13,7 @@ ghost use Rattle.irr_close.specs.StandsFor.{stands_for, IsAccepted, IsRefusal};
 use crate::centring::close_centrings;
 use crate::closing::{close_rotations, first_of_each};
 use crate::denominator::have_small_denominator;
+use crate::distinct::distinct;
 use crate::group::Group;
 use crate::{CloseError, rotation};
 use irr_seitz::{Op, Phase};
@@ -30,9 +31,8 @@ fn without_vectors(alloc: Global, ops: &[Op]) -> Result<Vec<Op>, CloseError>
     Ok(made)
 }
 
-/// The group that operations and the unit translations generate (International Tables A, section 1.4; Bradley
-/// and Cracknell, section 1.5).
-pub fn close(alloc: Global, generators: &[Op], phase: Phase) -> Result<Group, CloseError>
+// The group that operations and the unit translations generate.
+fn close_distinct(alloc: Global, generators: &[Op], phase: Phase) -> Result<Group, CloseError>
     requires generators { All IsGenerator generators.now }
     requires unimodular { All (λ s. unsigned_abs (determinant (operation s).rotation) ≡ 1) generators.now }
     ensures group { IfOk result (λ group. (g : Operation) → stands_for group g ↔ Generated (operations generators.now) g) }
@@ -49,6 +49,22 @@ pub fn close(alloc: Global, generators: &[Op], phase: Phase) -> Result<Group, Cl
     let ops = close_rotations(alloc, &seeds)?;
     let centrings = close_centrings(alloc, generators, &ops)?;
     let group = Group::new(alloc, ops.as_slice(), centrings, phase)?;
+    Ok(group)
+}
+
+/// The group that operations and the unit translations generate (International Tables A, section 1.4; Bradley
+/// and Cracknell, section 1.5). An operation that differs by a whole translation from one before it costs one
+/// look-up.
+pub fn close(alloc: Global, generators: &[Op], phase: Phase) -> Result<Group, CloseError>
+    requires generators { All IsGenerator generators.now }
+    requires unimodular { All (λ s. unsigned_abs (determinant (operation s).rotation) ≡ 1) generators.now }
+    ensures group { IfOk result (λ group. (g : Operation) → stands_for group g ↔ Generated (operations generators.now) g) }
+    ensures phase { IfOk result (λ group. group.phase ≡ phase) }
+    ensures accepted { IfOk result (λ _. IsAccepted generators.now) }
+    ensures refused { IfErr result (IsRefusal generators.now) }
+{
+    let operations = distinct(alloc, generators)?;
+    let group = close_distinct(alloc, operations.as_slice(), phase)?;
     Ok(group)
 }
 

@@ -8,6 +8,7 @@ mod canonical;
 mod centring;
 mod closing;
 mod denominator;
+mod distinct;
 mod exponent;
 mod generation;
 mod group;

@@ -312,6 +312,27 @@ fn generators_in_another_order_and_with_repeats_give_an_equal_group(rt: HostRunt
             &closed(alloc, &[centring, second, first, second, centring]),
         )
     );
+    let first_further = op([[1, 0, 0], [0, -1, 0], [0, 0, -1]], [3, -1, 4], 2);
+    let centring_further = op(UNIT, [1, -3, 5], 2);
+    assert!(rt;
+        are_equal(
+            &closed(alloc, &[first, second, centring]),
+            &closed(alloc, &[first_further, second, first, centring_further]),
+        )
+    );
+}
+
+// Two mirrors at x = 0 and glides along them: the glides bring the translations.
+#[test]
+fn operations_with_one_rotation_bring_translations(rt: HostRuntime) {
+    let alloc = rt.alloc();
+    let mirror = [[-1, 0, 0], [0, 1, 0], [0, 0, 1]];
+    let lines = [
+        op(mirror, [0, 0, 0], 1),
+        op(mirror, [0, 1, 0], 2),
+        op(mirror, [0, 0, 1], 3),
+    ];
+    assert_eq!(rt; counts(alloc, &lines), Some(Ok((2, 6))));
 }
 
 #[test]

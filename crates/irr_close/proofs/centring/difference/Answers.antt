@@ -4,7 +4,8 @@ use Rattle.irr_close.proofs.Denominators.{IsOver, over-sub, over_of_divides, ove
 use Rattle.irr_close.proofs.centring.difference.Goals as goal
 
 pub sub-requires : goal.sub-requires
-sub-requires c = fits_difference c.args.a.now.num c.args.b.now.num c.args.a.now.den c.args.b.now.den c.args.a.now.lowest.positive c.args.b.now.lowest.positive
+sub-requires c = fits_difference c.args.a.now.num c.args.b.now.num c.args.a.now.den c.args.b.now.den c.args.a.now.lowest.positive
+    c.args.b.now.lowest.positive
     c.requires.small c.requires.other_small c.requires.in_cell c.requires.other_in_cell c.requires.denominator
 
 pub returns-clause-divides : goal.returns-clause-divides

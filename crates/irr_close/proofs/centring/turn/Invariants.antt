@@ -12,6 +12,8 @@ use Rattle.irr_close.proofs.centring.turn.Given as goal
 abbrev pub invariant-loop-op : goal.invariant-loop-op
 invariant-loop-op l = record {
   longer : IsLonger l.fn.centrings.items l.centrings.items;
-  turned : (j : ℕ) → j < l.op-index → HoldsAt (λ g. HoldsAt (λ c. HasQuotient l.kept l.centrings.items (operation g) (translation (vector c))) l.fn.centrings.items l.i) l.kept j;
-  lattice : (gs : List Op) → AreInvertible gs → All (IsKept gs) l.kept → IsPartialLattice gs l.fn.centrings.items → IsPartialLattice gs l.centrings.items;
+  turned : (j : ℕ) → j < l.op-index
+      → HoldsAt (λ g. HoldsAt (λ c. HasQuotient l.kept l.centrings.items (operation g) (translation (vector c))) l.fn.centrings.items l.i) l.kept j;
+  lattice : (gs : List Op) → AreInvertible gs → All (IsKept gs) l.kept → IsPartialLattice gs l.fn.centrings.items
+      → IsPartialLattice gs l.centrings.items;
 }

@@ -5,7 +5,8 @@ use Rattle.irr_close.proofs.Denominators.{IsOver, small_numerators, over_product
 use Rattle.irr_close.proofs.closing.product.Goals as goal
 
 pub compose-requires-clause-numerators : goal.compose-requires-clause-numerators
-compose-requires-clause-numerators c = λ i. let h = small_numerators c.args.op.now.num c.args.op.now.den c.args.op.now.lowest.positive c.requires.in_cell i in let s = c.requires.small in omega (arith, h, s)
+compose-requires-clause-numerators c = λ i. let h = small_numerators c.args.op.now.num c.args.op.now.den c.args.op.now.lowest.positive
+    c.requires.in_cell i in let s = c.requires.small in omega (arith, h, s)
 
 pub returns-clause-rotation : goal.returns-clause-rotation
 unfolding ◌⊙◌

@@ -25,14 +25,16 @@ pub overflow_add-n : goal.overflow_add-n
 overflow_add-n c = record { fits = omega (arith, c.loop-n.invariant.before) }
 
 pub loop-n-smaller : goal.loop-n-smaller
-loop-n-smaller c = let l = still c.args.ops.now c.loop-n.n c.requires.some.0 c.requires.some.1 c.requires.some.3 c.loop-n.invariant.none (λ e. cc (c.all_return.ensures.1 e, c.loop-n-test.true)) in let m = c.requires.some.2 in omega arith
+loop-n-smaller c = let l = still c.args.ops.now c.loop-n.n c.requires.some.0 c.requires.some.1 c.requires.some.3 c.loop-n.invariant.none
+    (λ e. cc (c.all_return.ensures.1 e, c.loop-n-test.true)) in let m = c.requires.some.2 in omega arith
 
 pub loop-n-preserved : goal.loop-n-preserved
-loop-n-preserved c = let l = still c.args.ops.now c.loop-n.n c.requires.some.0 c.requires.some.1 c.requires.some.3 c.loop-n.invariant.none (λ e. cc (c.all_return.ensures.1 e, c.loop-n-test.true)) in let m = c.requires.some.2 in record {
-  positive = omega arith;
-  before = omega arith;
-  none = more c.args.ops.now c.loop-n.n c.loop-n.invariant.none (λ e. cc (c.all_return.ensures.1 e, c.loop-n-test.true));
-}
+loop-n-preserved c = let l = still c.args.ops.now c.loop-n.n c.requires.some.0 c.requires.some.1 c.requires.some.3 c.loop-n.invariant.none
+    (λ e. cc (c.all_return.ensures.1 e, c.loop-n-test.true)) in let m = c.requires.some.2 in record {
+      positive = omega arith;
+      before = omega arith;
+      none = more c.args.ops.now c.loop-n.n c.loop-n.invariant.none (λ e. cc (c.all_return.ensures.1 e, c.loop-n-test.true));
+    }
 
 pub returns-clause-least : goal.returns-clause-least
 returns-clause-least c = record {

@@ -12,8 +12,10 @@ unfolding stands_for
 returns-in-Some-clause-none c = (
   λ e. absurd (let t : true ≡ false = e in cc),
   λ h.
-      let there : HasRotation c.args.self.now.ops.items (rotation_of c.args.rot.now) = subst (λ (xs : List Op). HasRotation xs (rotation_of c.args.rot.now)) c.as_slice.ensures.value (c.in-Some.k, c.in-Some.ensures.within, c.in-Some.ensures.found) in
-      let g = has_rotation c.args.self.now.ops.items c.args.self.now.centrings.items (untruncated c.args.self.now.ops.items c.args.self.now.centrings.items c.args.self.now.form) (rotation_of c.args.rot.now) there in
+      let there : HasRotation c.args.self.now.ops.items (rotation_of c.args.rot.now) = subst (λ (xs : List Op). HasRotation xs
+      (rotation_of c.args.rot.now)) c.as_slice.ensures.value (c.in-Some.k, c.in-Some.ensures.within, c.in-Some.ensures.found) in
+      let g = has_rotation c.args.self.now.ops.items c.args.self.now.centrings.items
+      (untruncated c.args.self.now.ops.items c.args.self.now.centrings.items c.args.self.now.form) (rotation_of c.args.rot.now) there in
       absurd (h g.0 g.1 g.2),
 )
 

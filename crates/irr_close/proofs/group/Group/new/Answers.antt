@@ -18,10 +18,13 @@ number-requires-clause-centrings c = subst AreInCell (sym c.deref.ensures.value)
 pub invariant_of-result : goal.invariant_of-result
 invariant_of-result c = record {
   form = ∣ are_canonical c.args.kept.now c.args.centrings.items c.requires c.in_ok-ops.ops.items c.in_ok-centrings.centrings.items
-      (subst (λ xs. IsNumberedFrom xs c.args.kept.now c.in_ok-ops.ops.items) c.deref.ensures.value c.in_ok-ops.ensures.numbered) c.in_ok-centrings.ensures.sorted (first_of c.args.kept.now c.requires.nonempty) (first_of c.args.centrings.items c.requires.has_centring) ∣₁;
+      (subst (λ xs. IsNumberedFrom xs c.args.kept.now c.in_ok-ops.ops.items) c.deref.ensures.value c.in_ok-ops.ensures.numbered)
+      c.in_ok-centrings.ensures.sorted (first_of c.args.kept.now c.requires.nonempty) (first_of c.args.centrings.items c.requires.has_centring)
+      ∣₁;
 }
 
 pub returns-clause-group : goal.returns-clause-group
 unfolding stands_for
 returns-clause-group c = canonical_stands c.args.kept.now c.args.centrings.items c.requires c.in_ok-ops.ops.items c.in_ok-centrings.centrings.items
-    (subst (λ xs. IsNumberedFrom xs c.args.kept.now c.in_ok-ops.ops.items) c.deref.ensures.value c.in_ok-ops.ensures.numbered) c.in_ok-centrings.ensures.sorted (first_of c.args.kept.now c.requires.nonempty) (first_of c.args.centrings.items c.requires.has_centring)
+    (subst (λ xs. IsNumberedFrom xs c.args.kept.now c.in_ok-ops.ops.items) c.deref.ensures.value c.in_ok-ops.ensures.numbered)
+    c.in_ok-centrings.ensures.sorted (first_of c.args.kept.now c.requires.nonempty) (first_of c.args.centrings.items c.requires.has_centring)
