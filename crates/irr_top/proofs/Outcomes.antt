@@ -8,7 +8,7 @@ use Rattle.irr_io.specs.Count.{Rose, CountsAtMost}
 use Rattle.irr_io.specs.Told.{Gains, Gained, IsAtEnd}
 use Rattle.irr_top.specs.Command.{IsCommand, IsFaulty}
 use Rattle.irr_top.specs.Asked.{Asks, IsAllOf}
-use Rattle.irr_top.specs.Asked.Asks.{usage, too_long, faulty_line, order_too_large, report}
+use Rattle.irr_top.specs.Asked.Asks.{usage, too_long, faulty_line, rotations, denominator, centrings, order_too_large, co_group, report}
 use Rattle.irr_top.specs.Answered.{HasText, Answers, CutOff, Streams}
 use Rattle.irr_top.specs.Ended.{Ended, Serves}
 use Rattle.irr_top.specs.Ended.Ended.{whole, cut_off, no_memory}
@@ -22,8 +22,12 @@ pub asked_text : {words : List (List ℕ)} {bytes text : List ℕ} {s : Status} 
 asked_text (usage p) = tt
 asked_text (too_long c l) = tt
 asked_text (faulty_line c l e) = tt
-asked_text (order_too_large k gens a o l) = tt
-asked_text (report k gens r a o l i) = tt
+asked_text (rotations k gens a r) = tt
+asked_text (denominator k gens a r) = tt
+asked_text (centrings k gens a r) = tt
+asked_text (order_too_large k gens a i o l) = tt
+asked_text (co_group k gens a i o l h m) = tt
+asked_text (report k gens r a i o l h is) = tt
 
 -- the text of another status than Done is not Done
 pub ended_not_done : {s t : Status} {text : List ℕ} {faults faulted : ℕ} {held holds : Option (List ℕ)} {wrote writes : Option ℕ} → Ended s text faults faulted held holds wrote writes t → (s ≡ Done → ⊥) → t ≡ Done → ⊥

@@ -2,8 +2,9 @@
 #![tactic(auto)]
 
 mod answer;
-mod reduced;
+mod input;
 mod refusal;
+mod small_group;
 mod status;
 mod top;
 mod wave;
