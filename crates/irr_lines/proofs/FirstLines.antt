@@ -94,10 +94,12 @@ pub record FirstLine (text : List ℕ) : Type 0 where
   pub shorter : length rest < length text
 
 pub rest_shorter : (text before rest : List ℕ) → text ≡ before ++ 10 ∷ rest → length rest < length text
-rest_shorter text before rest e = let l : length text ≡ length before + suc (length rest) = ap length e ∙ length-append before (10 ∷ rest) in omega arith
+rest_shorter text before rest e = let l : length text ≡ length before + suc (length rest) = ap length e ∙ length-append before
+    (10 ∷ rest) in omega arith
 
 pub first_line : (text : List ℕ) → text ≢ [] → 0 < length text → FirstLine text
 first_line text n p = elim (parted text) [
   | whole l ↦ record { line = text; rest = []; is_first = unended n l refl refl; shorter = p }
-  | at_feed before rest e l ↦ record { line = (content before).0; rest = rest; is_first = ended before e l (content before).1; shorter = rest_shorter text before rest e }
+  | at_feed before rest e l ↦ record { line = (content before).0; rest = rest; is_first = ended before e l
+      (content before).1; shorter = rest_shorter text before rest e }
 ]

@@ -32,7 +32,11 @@ module _ (G P : Operation → Type 0) where
       order zero zero = inr (inr refl)
       order zero (suc b) = inl (omega arith)
       order (suc a) zero = inr (inl (omega arith))
-      order (suc a) (suc b) = elim (order a b) [ inl l ↦ inl (omega arith) | inr r ↦ elim r [ inl l ↦ inr (inl (omega arith)) | inr s ↦ inr (inr (ap suc s)) ] ]
+      order (suc a) (suc b) = elim (order a b) [
+        | inl l ↦ inl (omega arith)
+        | inr r ↦ elim r
+            [ inl l ↦ inr (inl (omega arith)) | inr s ↦ inr (inr (ap suc s)) ]
+      ]
 
       at_order : (to_nat i < to_nat j) ⊎ ((to_nat j < to_nat i) ⊎ (to_nat i ≡ to_nat j)) → ⊥
       at_order (inl l) = not_before_itself (ops i) (ops j) e (n.ordered i j l)
@@ -54,14 +58,16 @@ module _ (G P : Operation → Type 0) where
 
       meeting : AreTwoAt place → ⊥
       meeting t = once others n (widened t.one) (widened t.other)
-          (λ e. t.different (to_nat_inj t.one t.other (sym (to_nat-from_nat c (to_nat t.one) (let k = to_nat-lt t.one in omega arith)) ∙ ap to_nat e ∙ to_nat-from_nat c (to_nat t.other) (let k = to_nat-lt t.other in omega arith))))
+          (λ e. t.different (to_nat_inj t.one t.other (sym (to_nat-from_nat c (to_nat t.one) (let k = to_nat-lt t.one in omega arith)) ∙ ap to_nat e
+          ∙ to_nat-from_nat c (to_nat t.other) (let k = to_nat-lt t.other in omega arith))))
           (sym (found (widened t.one)).1 ∙ ap ops t.meet ∙ (found (widened t.other)).1)
 
 same_number : (b c : ℕ) → (b < c → ⊥) → (c < b → ⊥) → b ≡ c
 same_number b c f g = omega (arith, f, g)
 
 pub co_group_unique : (G : Operation → Type 0) (k : WaveVector) (b c : ℕ) → HasCoGroup G k b → HasCoGroup G k c → b ≡ c
-co_group_unique G k b c p q = same_number b c (fewer G (IsInLittleGroup G k) p.ops q.ops p.numbering q.numbering) (fewer G (IsInLittleGroup G k) q.ops p.ops q.numbering p.numbering)
+co_group_unique G k b c p q = same_number b c (fewer G (IsInLittleGroup G k) p.ops q.ops p.numbering q.numbering)
+    (fewer G (IsInLittleGroup G k) q.ops p.ops q.numbering p.numbering)
 
 pub co_group_positive : (G : Operation → Type 0) → IsGroup G → HasCanonical G → (k : WaveVector) → HasCoGroup G k 0 → ⊥
 co_group_positive G group chosen k h =

@@ -30,26 +30,31 @@ module _ (group : Group) (gens : List Op) (is : IsGroupOf group gens) (k : WaveV
     place = from_nat (length group.ops.items) i below
 
     at_place : (d : Op) → operation op ≡ numbered group.ops.items d place
-    at_place d = ap operation (at ∙ get_or_default group.ops.items i op d below ∙ ap (λ n. get_or group.ops.items n d) (sym (to_nat-from_nat (length group.ops.items) i below)))
+    at_place d = ap operation (at ∙ get_or_default group.ops.items i op d below ∙ ap (λ n. get_or group.ops.items n d)
+        (sym (to_nat-from_nat (length group.ops.items) i below)))
 
     pub canonical_member : group_of gens (operation op)
     canonical_member = subst (group_of gens) (sym (at_place op)) ((numbering_of group gens is op).canonical place).member
 
     module _ (b : Bool) (test : IsTrue b ↔ AreEquivalent (group_of gens) (turned k (operation op)) k) (d : Op) (c : ℕ) where
       pub kept_one : IsTrue b → Kept d (suc i) c → Kept d i (suc c)
-      kept_one t p = picked-take (numbered group.ops.items d) (IsInLittleGroup (group_of gens) k) i c place (to_nat-from_nat (length group.ops.items) i below)
+      kept_one t p = picked-take (numbered group.ops.items d) (IsInLittleGroup (group_of gens) k) i c place
+          (to_nat-from_nat (length group.ops.items) i below)
           (subst (IsInLittleGroup (group_of gens) k) (at_place d) (record { member = canonical_member; keeps = test.0 t })) p
 
       pub kept_none : (IsTrue b → ⊥) → Kept d (suc i) c → Kept d i c
-      kept_none n p = picked-skip (numbered group.ops.items d) (IsInLittleGroup (group_of gens) k) i c place (to_nat-from_nat (length group.ops.items) i below)
+      kept_none n p = picked-skip (numbered group.ops.items d) (IsInLittleGroup (group_of gens) k) i c place
+          (to_nat-from_nat (length group.ops.items) i below)
           (λ l. n (test.1 (subst (IsInLittleGroup (group_of gens) k) (sym (at_place d)) l).keeps)) p
 
-      pub step_one : (old new after : ℕ) → new ≡ old + 1 → after ≡ suc i → ((n : ℕ) → Kept d i n → Kept d 0 (old + n)) → IsTrue b → Kept d after c → Kept d 0 (new + c)
+      pub step_one : (old new after : ℕ) → new ≡ old + 1 → after ≡ suc i → ((n : ℕ) → Kept d i n → Kept d 0 (old + n)) → IsTrue b → Kept d after c
+          → Kept d 0 (new + c)
       step_one old new after e f so t p =
           let number : old + suc c ≡ new + c = omega arith in
           subst (λ n. Kept d 0 n) number (so (suc c) (kept_one t (subst (λ j. Kept d j c) f p)))
 
-      pub step_none : (old new after : ℕ) → new ≡ old → after ≡ suc i → ((n : ℕ) → Kept d i n → Kept d 0 (old + n)) → (IsTrue b → ⊥) → Kept d after c → Kept d 0 (new + c)
+      pub step_none : (old new after : ℕ) → new ≡ old → after ≡ suc i → ((n : ℕ) → Kept d i n → Kept d 0 (old + n)) → (IsTrue b → ⊥) → Kept d after c
+          → Kept d 0 (new + c)
       step_none old new after e f so t p = subst (λ n. Kept d 0 (n + c)) (sym e) (so c (kept_none t (subst (λ j. Kept d j c) f p)))
 
   pub nothing_left : (d : Op) (i : ℕ) → length group.ops.items ≤ i → Kept d i 0
@@ -62,4 +67,8 @@ module _ (group : Group) (gens : List Op) (is : IsGroupOf group gens) (k : WaveV
   pub counted_all : (c : ℕ) → ((d : Op) → Kept d 0 c) → HasCoGroup (group_of gens) k c
   counted_all c p =
       let d = some_op group.ops.items (form_of group).nonempty in
-      record { ops = λ j. numbered group.ops.items d ((p d).place j); numbering = picked_numbering (group_of gens) (IsInLittleGroup (group_of gens) k) (numbered group.ops.items d) (numbering_of group gens is d) (p d) }
+      record {
+        ops = λ j. numbered group.ops.items d ((p d).place j);
+        numbering = picked_numbering (group_of gens) (IsInLittleGroup (group_of gens) k)
+            (numbered group.ops.items d) (numbering_of group gens is d) (p d);
+      }

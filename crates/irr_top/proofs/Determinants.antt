@@ -23,7 +23,8 @@ module _ (R : Ring) where
       (R.neg (R.add (R.add (R.mul (R.mul z v) p) (R.mul (R.mul y u) r)) (R.mul (R.mul x w) q)))
 
   mixed_first : (a b c x y z x' y' z' x'' y'' z'' u v w p q r : R.Carrier)
-      → sarrus (R.add (R.mul a x) (R.add (R.mul b x') (R.add (R.mul c x'') R.zero))) (R.add (R.mul a y) (R.add (R.mul b y') (R.add (R.mul c y'') R.zero)))
+      → sarrus (R.add (R.mul a x) (R.add (R.mul b x') (R.add (R.mul c x'') R.zero)))
+      (R.add (R.mul a y) (R.add (R.mul b y') (R.add (R.mul c y'') R.zero)))
       (R.add (R.mul a z) (R.add (R.mul b z') (R.add (R.mul c z'') R.zero))) u v w p q r
       ≡ R.add (R.mul a (sarrus x y z u v w p q r)) (R.add (R.mul b (sarrus x' y' z' u v w p q r)) (R.mul c (sarrus x'' y'' z'' u v w p q r)))
   mixed_first a b c x y z x' y' z' x'' y'' z'' u v w p q r = simp (ring_laws, R)
@@ -38,15 +39,18 @@ module _ (R : Ring) where
   equal x y z p q r = simp (ring_laws, R)
 
   unfoldable rows : (x y z : Fin 3 → R.Carrier) → R.Carrier
-  rows x y z = sarrus (x first) (x (next first)) (x (next (next first))) (y first) (y (next first)) (y (next (next first))) (z first) (z (next first)) (z (next (next first)))
+  rows x y z = sarrus (x first) (x (next first)) (x (next (next first))) (y first) (y (next first)) (y (next (next first))) (z first) (z (next first))
+      (z (next (next first)))
 
   rows-turned : (x y z : Fin 3 → R.Carrier) → rows x y z ≡ rows y z x
   unfolding rows
-  rows-turned x y z = turned (x first) (x (next first)) (x (next (next first))) (y first) (y (next first)) (y (next (next first))) (z first) (z (next first)) (z (next (next first)))
+  rows-turned x y z = turned (x first) (x (next first)) (x (next (next first))) (y first) (y (next first)) (y (next (next first))) (z first)
+      (z (next first)) (z (next (next first)))
 
   rows-swapped : (x y z : Fin 3 → R.Carrier) → rows y x z ≡ R.neg (rows x y z)
   unfolding rows
-  rows-swapped x y z = swapped (x first) (x (next first)) (x (next (next first))) (y first) (y (next first)) (y (next (next first))) (z first) (z (next first)) (z (next (next first)))
+  rows-swapped x y z = swapped (x first) (x (next first)) (x (next (next first))) (y first) (y (next first)) (y (next (next first))) (z first)
+      (z (next first)) (z (next (next first)))
 
   rows-left : (x z : Fin 3 → R.Carrier) → rows x x z ≡ R.zero
   unfolding rows
@@ -66,7 +70,8 @@ module _ (R : Ring) where
         → rows (mixed a b c) y z ≡ R.add (R.mul a (rows s y z)) (R.add (R.mul b (rows t y z)) (R.mul c (rows u y z)))
     unfolding rows
     rows-mixed a b c y z = mixed_first a b c (s first) (s (next first)) (s (next (next first))) (t first) (t (next first)) (t (next (next first)))
-        (u first) (u (next first)) (u (next (next first))) (y first) (y (next first)) (y (next (next first))) (z first) (z (next first)) (z (next (next first)))
+        (u first) (u (next first)) (u (next (next first))) (y first) (y (next first)) (y (next (next first))) (z first) (z (next first))
+        (z (next (next first)))
 
     three : (a b c x y z x' y' z' : R.Carrier) → x ≡ x' → y ≡ y' → z ≡ z'
         → R.add (R.mul a x) (R.add (R.mul b y) (R.mul c z)) ≡ R.add (R.mul a x') (R.add (R.mul b y') (R.mul c z'))
@@ -101,32 +106,38 @@ module _ (R : Ring) where
         second y = rows-turned y (mixed d e f) (mixed g h i) ∙ rows-mixed d e f (mixed g h i) y
 
         at_s : rows s (mixed d e f) (mixed g h i) ≡ R.add (R.mul d (R.add (R.mul g R.zero) (R.add (R.mul h R.zero) (R.mul i R.zero))))
-            (R.add (R.mul e (R.add (R.mul g R.zero) (R.add (R.mul h R.zero) (R.mul i (rows s t u))))) (R.mul f (R.add (R.mul g R.zero) (R.add (R.mul h (R.neg (rows s t u))) (R.mul i R.zero)))))
+            (R.add (R.mul e (R.add (R.mul g R.zero) (R.add (R.mul h R.zero) (R.mul i (rows s t u)))))
+            (R.mul f (R.add (R.mul g R.zero) (R.add (R.mul h (R.neg (rows s t u))) (R.mul i R.zero)))))
         at_s = second s ∙ three d e f _ _ _ _ _ _
             (third s s ∙ three g h i _ _ _ _ _ _ (rows-right s s) (rows-right s t) (rows-right s u))
             (third t s ∙ three g h i _ _ _ _ _ _ (rows-left s t) (rows-ends t s) ust)
             (third u s ∙ three g h i _ _ _ _ _ _ (rows-left s u) tsu (rows-ends u s))
 
         at_t : rows t (mixed d e f) (mixed g h i) ≡ R.add (R.mul d (R.add (R.mul g R.zero) (R.add (R.mul h R.zero) (R.mul i (R.neg (rows s t u))))))
-            (R.add (R.mul e (R.add (R.mul g R.zero) (R.add (R.mul h R.zero) (R.mul i R.zero)))) (R.mul f (R.add (R.mul g (rows s t u)) (R.add (R.mul h R.zero) (R.mul i R.zero)))))
+            (R.add (R.mul e (R.add (R.mul g R.zero) (R.add (R.mul h R.zero) (R.mul i R.zero))))
+            (R.mul f (R.add (R.mul g (rows s t u)) (R.add (R.mul h R.zero) (R.mul i R.zero)))))
         at_t = second t ∙ three d e f _ _ _ _ _ _
             (third s t ∙ three g h i _ _ _ _ _ _ (rows-ends s t) (rows-left t s) uts)
             (third t t ∙ three g h i _ _ _ _ _ _ (rows-right t s) (rows-right t t) (rows-right t u))
             (third u t ∙ three g h i _ _ _ _ _ _ stu (rows-left t u) (rows-ends u t))
 
         at_u : rows u (mixed d e f) (mixed g h i) ≡ R.add (R.mul d (R.add (R.mul g R.zero) (R.add (R.mul h (rows s t u)) (R.mul i R.zero))))
-            (R.add (R.mul e (R.add (R.mul g (R.neg (rows s t u))) (R.add (R.mul h R.zero) (R.mul i R.zero)))) (R.mul f (R.add (R.mul g R.zero) (R.add (R.mul h R.zero) (R.mul i R.zero)))))
+            (R.add (R.mul e (R.add (R.mul g (R.neg (rows s t u))) (R.add (R.mul h R.zero) (R.mul i R.zero))))
+            (R.mul f (R.add (R.mul g R.zero) (R.add (R.mul h R.zero) (R.mul i R.zero)))))
         at_u = second u ∙ three d e f _ _ _ _ _ _
             (third s u ∙ three g h i _ _ _ _ _ _ (rows-ends s u) tus (rows-left u s))
             (third t u ∙ three g h i _ _ _ _ _ _ sut (rows-ends t u) (rows-left u t))
             (third u u ∙ three g h i _ _ _ _ _ _ (rows-right u s) (rows-right u t) (rows-right u u))
 
         collected : (a b c m : R.Carrier) → R.add (R.mul a (R.add (R.mul d (R.add (R.mul g R.zero) (R.add (R.mul h R.zero) (R.mul i R.zero))))
-            (R.add (R.mul e (R.add (R.mul g R.zero) (R.add (R.mul h R.zero) (R.mul i m)))) (R.mul f (R.add (R.mul g R.zero) (R.add (R.mul h (R.neg m)) (R.mul i R.zero)))))))
+            (R.add (R.mul e (R.add (R.mul g R.zero) (R.add (R.mul h R.zero) (R.mul i m))))
+            (R.mul f (R.add (R.mul g R.zero) (R.add (R.mul h (R.neg m)) (R.mul i R.zero)))))))
             (R.add (R.mul b (R.add (R.mul d (R.add (R.mul g R.zero) (R.add (R.mul h R.zero) (R.mul i (R.neg m)))))
-            (R.add (R.mul e (R.add (R.mul g R.zero) (R.add (R.mul h R.zero) (R.mul i R.zero)))) (R.mul f (R.add (R.mul g m) (R.add (R.mul h R.zero) (R.mul i R.zero)))))))
+            (R.add (R.mul e (R.add (R.mul g R.zero) (R.add (R.mul h R.zero) (R.mul i R.zero))))
+            (R.mul f (R.add (R.mul g m) (R.add (R.mul h R.zero) (R.mul i R.zero)))))))
             (R.mul c (R.add (R.mul d (R.add (R.mul g R.zero) (R.add (R.mul h m) (R.mul i R.zero))))
-            (R.add (R.mul e (R.add (R.mul g (R.neg m)) (R.add (R.mul h R.zero) (R.mul i R.zero)))) (R.mul f (R.add (R.mul g R.zero) (R.add (R.mul h R.zero) (R.mul i R.zero))))))))
+            (R.add (R.mul e (R.add (R.mul g (R.neg m)) (R.add (R.mul h R.zero) (R.mul i R.zero))))
+            (R.mul f (R.add (R.mul g R.zero) (R.add (R.mul h R.zero) (R.mul i R.zero))))))))
             ≡ R.mul (sarrus a b c d e f g h i) m
         collected a b c m = simp (ring_laws, R)
 
@@ -148,4 +159,5 @@ pub unimodular_of_inverse : (A B : Rotation) → A · B ≡ unit integers 3 → 
 unimodular_of_inverse A B e =
     let one : unsigned_abs (determinant A) * unsigned_abs (determinant B) ≡ 1
     = sym (unsigned_abs-mul (determinant A) (determinant B)) ∙ ap unsigned_abs (sym (determinant-mul A B) ∙ ap determinant e ∙ determinant-unit) in
-    Nat.eq-one_of_dvd-one (subst (λ n. unsigned_abs (determinant A) ∣ n) one (Nat.dvd-mul_right (unsigned_abs (determinant A)) (unsigned_abs (determinant B))))
+    Nat.eq-one_of_dvd-one (subst (λ n. unsigned_abs (determinant A) ∣ n) one
+    (Nat.dvd-mul_right (unsigned_abs (determinant A)) (unsigned_abs (determinant B))))

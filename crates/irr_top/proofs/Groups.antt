@@ -49,7 +49,8 @@ form_of group = untruncated group.ops.items group.centrings.items group.form
 
 -- the canonical operations have rotations with inverses
 pub unimodular_of : (ops : List Op) → IsRotationGroup ops → All (λ g. unsigned_abs (determinant (operation g).rotation) ≡ 1) ops
-unimodular_of ops r k d l = let t = r.inverses k d l in unimodular_of_inverse (operation (get_or ops k d)).rotation (operation (get_or ops t.0 d)).rotation (t.2 d)
+unimodular_of ops r k d l = let t = r.inverses k d l in unimodular_of_inverse (operation (get_or ops k d)).rotation
+    (operation (get_or ops t.0 d)).rotation (t.2 d)
 
 module _ (group : Group) (gens : List Op) (h : IsGroupOf group gens) where
   pub is_group : IsGroup (group_of gens)
@@ -69,16 +70,19 @@ module _ (group : Group) (gens : List Op) (h : IsGroupOf group gens) where
 
   pub centrings_of : AreCentrings (group_of gens) group.centrings.items
   unfolding stands_for
-  centrings_of = centrings_along (StandFor group.ops.items group.centrings.items) (group_of gens) h.stands group.centrings.items (form_of group).centrings
+  centrings_of = centrings_along (StandFor group.ops.items group.centrings.items) (group_of gens) h.stands group.centrings.items
+      (form_of group).centrings
 
   pub centring_list : IsCentringList group.centrings.items
   centring_list = are_centring_list (operations gens) group.centrings.items centrings_of (form_of group).few_centrings
 
   pub numbering_of : (d : Op) → IsNumbering (group_of gens) (λ _. Unit {0}) (numbered group.ops.items d)
   unfolding stands_for
-  numbering_of d = numbering_along (StandFor group.ops.items group.centrings.items) (group_of gens) h.stands (length group.ops.items) (numbered group.ops.items d) ((form_of group).numbering d)
+  numbering_of d = numbering_along (StandFor group.ops.items group.centrings.items) (group_of gens) h.stands (length group.ops.items)
+      (numbered group.ops.items d) ((form_of group).numbering d)
 
-  pub order_of : (k : WaveVector) (e q n : ℕ) → IsExponent (stands_for group) e → IsPeriod (LatticeOf group.centrings.items) k q → n ≡ e * q → IsOrder (group_of gens) k n
+  pub order_of : (k : WaveVector) (e q n : ℕ) → IsExponent (stands_for group) e → IsPeriod (LatticeOf group.centrings.items) k q → n ≡ e * q → IsOrder
+      (group_of gens) k n
   order_of k e q n x p i = record {
     exponent = e;
     period = q;
@@ -91,7 +95,8 @@ module _ (group : Group) (gens : List Op) (h : IsGroupOf group gens) where
   reduced_of k r e = reduced_in_group (group_of gens) group.centrings.items centrings_of k r e
 
   -- an operation is in the little group where it carries k to an equivalent wave vector
-  pub kept : (b : Bool) (g : Operation) (k image : WaveVector) → group_of gens g → turned image g ≡ k → IsTrue b ↔ AreEquivalent (LatticeOf group.centrings.items) image k
+  pub kept : (b : Bool) (g : Operation) (k image : WaveVector) → group_of gens g → turned image g ≡ k → IsTrue b ↔ AreEquivalent
+      (LatticeOf group.centrings.items) image k
       → IsTrue b ↔ AreEquivalent (group_of gens) (turned k g) k
   kept b g k image m back test = (
     λ t. forth ((reciprocal_same (group_of gens) group.centrings.items centrings_of (image ⊖ k)).1 (test.0 t)),
@@ -102,13 +107,16 @@ module _ (group : Group) (gens : List Op) (h : IsGroupOf group gens) where
       inverse_of_g = is_group.has_inverse g m
 
       image_is : turned k inverse_of_g.0 ≡ image
-      image_is = ap (λ w. turned w inverse_of_g.0) (sym back) ∙ sym (turned-op image g inverse_of_g.0) ∙ ap (turned image) inverse_of_g.2.right ∙ turned-identity image
+      image_is = ap (λ w. turned w inverse_of_g.0) (sym back) ∙ sym (turned-op image g inverse_of_g.0) ∙ ap (turned image) inverse_of_g.2.right
+          ∙ turned-identity image
 
       forth : AreEquivalent (group_of gens) image k → AreEquivalent (group_of gens) (turned k g) k
-      forth e = equivalent_sym (group_of gens) k (turned k g) (subst (λ w. AreEquivalent (group_of gens) w (turned k g)) back (equivalent-turned (group_of gens) is_group image k g m e))
+      forth e = equivalent_sym (group_of gens) k (turned k g)
+          (subst (λ w. AreEquivalent (group_of gens) w (turned k g)) back (equivalent-turned (group_of gens) is_group image k g m e))
 
       back_from : AreEquivalent (group_of gens) (turned k g) k → AreEquivalent (group_of gens) image k
-      back_from e = subst (λ w. AreEquivalent (group_of gens) w k) image_is (little_inverse (group_of gens) is_group k g inverse_of_g.0 (record { member = m; keeps = e }) inverse_of_g.1 inverse_of_g.2).keeps
+      back_from e = subst (λ w. AreEquivalent (group_of gens) w k) image_is
+          (little_inverse (group_of gens) is_group k g inverse_of_g.0 (record { member = m; keeps = e }) inverse_of_g.1 inverse_of_g.2).keeps
 
 -- equivalent wave vectors
 module _ (G : Operation → Type 0) (group : IsGroup G) (k w : WaveVector) (e : AreEquivalent G w k) where
@@ -120,18 +128,21 @@ module _ (G : Operation → Type 0) (group : IsGroup G) (k w : WaveVector) (e : 
   regrouped c x y = simp (ring_laws, rationals)
 
   multiple_at : (n : ℕ) (t : Vector) → rationals.add (rationals.mul (whole rationals n) (dot (w ⊖ k) t)) (dot (times n k) t) ≡ dot (times n w) t
-  multiple_at n t = ap₂ rationals.add (ap (rationals.mul (whole rationals n)) (dot-sub w k t)) (dot-times n k t) ∙ regrouped (whole rationals n) (dot w t) (dot k t) ∙ sym (dot-times n w t)
+  multiple_at n t = ap₂ rationals.add (ap (rationals.mul (whole rationals n)) (dot-sub w k t)) (dot-times n k t) ∙ regrouped (whole rationals n)
+      (dot w t) (dot k t) ∙ sym (dot-times n w t)
 
   multiple_along : (n : ℕ) → IsReciprocal G (times n k) → IsReciprocal G (times n w)
   multiple_along n r = record {
     is_whole = λ t m. subst IsWhole (multiple_at n t)
-        (whole-add (rationals.mul (whole rationals n) (dot (w ⊖ k) t)) (dot (times n k) t) (whole-mul (whole rationals n) (dot (w ⊖ k) t) (whole_count n) (e.is_whole t m)) (r.is_whole t m));
+        (whole-add (rationals.mul (whole rationals n) (dot (w ⊖ k) t)) (dot (times n k) t)
+        (whole-mul (whole rationals n) (dot (w ⊖ k) t) (whole_count n) (e.is_whole t m)) (r.is_whole t m));
   }
 
   pub little_along : (g : Operation) → IsInLittleGroup G k g → IsInLittleGroup G w g
   little_along g l = record {
     member = l.member;
-    keeps = equivalent_trans G (turned w g) k w (equivalent_trans G (turned w g) (turned k g) k (equivalent-turned G group w k g l.member e) l.keeps) (equivalent_sym G w k e);
+    keeps = equivalent_trans G (turned w g) k w (equivalent_trans G (turned w g) (turned k g) k (equivalent-turned G group w k g l.member e) l.keeps)
+        (equivalent_sym G w k e);
   }
 
 module _ (G : Operation → Type 0) (group : IsGroup G) (k w : WaveVector) (e : AreEquivalent G w k) where

@@ -40,7 +40,8 @@ under a q n d h e hn hd =
     omega arith
 
 module _ (num : List ℤ) (den : ℕ) (f : Fin 3 → Rational) (low : AreThreeLowest num den) (same : (i : Fin 3) → f i ≡ ratio (entry num i) den)
-    (small : (i : Fin 3) → unsigned_abs (numerator (f i)) ≤ 100000) (c : Fin 3 → ℤ) (d : ℕ) (other : AreLowest c d) (are : (i : Fin 3) → f i ≡ ratio (c i) d) (within : d ≤ 100000) where
+    (small : (i : Fin 3) → unsigned_abs (numerator (f i)) ≤ 100000) (c : Fin 3 → ℤ) (d : ℕ) (other : AreLowest c d)
+    (are : (i : Fin 3) → f i ≡ ratio (c i) d) (within : d ≤ 100000) where
   pub small_denominator : den ≤ 100000
   small_denominator = at_factor (lowest_divides (entry num) c den d low other.positive (λ i. sym (same i) ∙ are i))
     where
@@ -48,14 +49,16 @@ module _ (num : List ℤ) (den : ℕ) (f : Fin 3 → Rational) (low : AreThreeLo
       at_factor t = let g : 1 * den ≤ t.0 * den = Nat.mul-le-mul_right den t.1 in let p : d ≡ t.0 * den = t.2 in omega arith
 
   pub small_numbers : (i : Fin 3) → unsigned_abs (entry num i) ≤ 10 ^ 10
-  small_numbers i = under (unsigned_abs (entry num i)) (denominator 1 (f i)) (unsigned_abs (numerator (f i))) den form.0.positive cross (small i) small_denominator
+  small_numbers i = under (unsigned_abs (entry num i)) (denominator 1 (f i)) (unsigned_abs (numerator (f i))) den form.0.positive cross
+      (small i) small_denominator
     where
       form : IsLowest (numerator (f i)) (denominator 1 (f i)) × (ratio (numerator (f i)) (denominator 1 (f i)) ≡ f i)
       form = numerator_is_lowest (f i)
 
       cross : unsigned_abs (entry num i) * denominator 1 (f i) ≡ unsigned_abs (numerator (f i)) * den
       cross = sym (unsigned_abs-mul (entry num i) (pos (denominator 1 (f i))))
-          ∙ ap unsigned_abs (cross_of_ratio (entry num i) (numerator (f i)) den (denominator 1 (f i)) low.positive form.0.positive (sym (same i) ∙ sym form.1))
+          ∙ ap unsigned_abs (cross_of_ratio (entry num i) (numerator (f i)) den (denominator 1 (f i)) low.positive form.0.positive
+          (sym (same i) ∙ sym form.1))
           ∙ unsigned_abs-mul (numerator (f i)) (pos den)
 
 module _ (w : Wave) (h : IsWithinLimits 100000 (wave_vector w)) where
@@ -63,10 +66,12 @@ module _ (w : Wave) (h : IsWithinLimits 100000 (wave_vector w)) where
   component-at i = component-is w.num w.den i ∙ ratios-at w.num w.den i
 
   pub wave_denominator : w.den ≤ 100000
-  wave_denominator = small_denominator w.num w.den (wave_component (wave_vector w)) w.lowest component-at h.numerators h.num h.den h.lowest h.are h.denominator
+  wave_denominator = small_denominator w.num w.den (wave_component (wave_vector w)) w.lowest component-at h.numerators h.num h.den h.lowest h.are
+      h.denominator
 
   pub wave_numbers : (i : Fin 3) → unsigned_abs (entry w.num i) ≤ 10 ^ 10
-  wave_numbers = small_numbers w.num w.den (wave_component (wave_vector w)) w.lowest component-at h.numerators h.num h.den h.lowest h.are h.denominator
+  wave_numbers = small_numbers w.num w.den (wave_component (wave_vector w)) w.lowest component-at h.numerators h.num h.den h.lowest h.are
+      h.denominator
 
   pub wave_limits : IsTaken w
   wave_limits = record {
@@ -74,7 +79,8 @@ module _ (w : Wave) (h : IsWithinLimits 100000 (wave_vector w)) where
     denominator = let s : w.den ≤ 100000 = wave_denominator in omega arith;
   }
 
-  pub image_limits : (image : Wave) → image.den ≡ w.den → ((b : ℕ) → ((i : Fin 3) → unsigned_abs (entry w.num i) ≤ b) → (i : Fin 3) → unsigned_abs (entry image.num i) ≤ 486 * b) → IsTaken image
+  pub image_limits : (image : Wave) → image.den ≡ w.den → ((b : ℕ) → ((i : Fin 3) → unsigned_abs (entry w.num i) ≤ b) → (i : Fin 3) → unsigned_abs
+      (entry image.num i) ≤ 486 * b) → IsTaken image
   image_limits image e size = record {
     numerators = λ i. let s : unsigned_abs (entry image.num i) ≤ 486 * 10 ^ 10 = size (10 ^ 10) wave_numbers i in omega arith;
     denominator = let s : w.den ≤ 100000 = wave_denominator in omega arith;
@@ -83,11 +89,13 @@ module _ (w : Wave) (h : IsWithinLimits 100000 (wave_vector w)) where
 pub readable_generator : (g : Op) → IsReadable (operation g) → IsGenerator g
 readable_generator g h = record {
   within = h.coefficients;
-  numerators = λ i. let s : unsigned_abs (entry g.num i) ≤ 10 ^ 10 = small_numbers g.num g.den (component (operation g).vector) g.lowest (component-vector_of g.num g.den) h.numerators h.num h.den h.lowest h.are h.denominator i in omega arith;
+  numerators = λ i. let s : unsigned_abs (entry g.num i) ≤ 10 ^ 10 = small_numbers g.num g.den (component (operation g).vector) g.lowest
+      (component-vector_of g.num g.den) h.numerators h.num h.den h.lowest h.are h.denominator i in omega arith;
 }
 
 pub readable_generators : (gens : List Op) → All (λ g. IsReadable (operation g)) gens → All IsGenerator gens
 readable_generators gens h k d l = readable_generator _ (h k d l)
 
-pub readable_unimodular : (gens : List Op) → All (λ g. IsReadable (operation g)) gens → All (λ s. unsigned_abs (determinant (operation s).rotation) ≡ 1) gens
+pub readable_unimodular : (gens : List Op) → All (λ g. IsReadable (operation g)) gens → All
+    (λ s. unsigned_abs (determinant (operation s).rotation) ≡ 1) gens
 readable_unimodular gens h k d l = (h k d l).unimodular

@@ -34,7 +34,8 @@ module _ (G : Operation → Type 0) where
   period_unique k d e p q = let a : d ≤ e = p.least e q.positive q.reciprocal in let b : e ≤ d = q.least d p.positive p.reciprocal in omega arith
 
   pub order_unique : (k : WaveVector) (m n : ℕ) → IsOrder G k m → IsOrder G k n → m ≡ n
-  order_unique k m n p q = p.is_product ∙ ap₂ (λ x y. x * y) (exponent_unique p.exponent q.exponent p.is_exponent q.is_exponent) (period_unique k p.period q.period p.is_period q.is_period) ∙ sym q.is_product
+  order_unique k m n p q = p.is_product ∙ ap₂ (λ x y. x * y) (exponent_unique p.exponent q.exponent p.is_exponent q.is_exponent)
+      (period_unique k p.period q.period p.is_period q.is_period) ∙ sym q.is_product
 
 -- before the group is made
 data Early (words : List (List ℕ)) (bytes : List ℕ) : Status → Type 0 where
@@ -52,7 +53,8 @@ refused_status no_memory = Memory
 -- at a wave vector of a group
 data InGroup (k : WaveVector) (gens : List Op) : Status → Type 0 where
   order_is_large : {n : ℕ} → IsOrder (group_of gens) k n → order_limit < n → InGroup k gens (TooLarge (Order n))
-  co_group_is_large : {n h : ℕ} → IsOrder (group_of gens) k n → n ≤ order_limit → HasCoGroup (group_of gens) k h → 1 < h → InGroup k gens (TooLarge (CoGroup h))
+  co_group_is_large : {n h : ℕ} → IsOrder (group_of gens) k n → n ≤ order_limit → HasCoGroup (group_of gens) k h → 1 < h → InGroup k gens
+      (TooLarge (CoGroup h))
   is_done : {n : ℕ} → IsOrder (group_of gens) k n → n ≤ order_limit → HasCoGroup (group_of gens) k 1 → InGroup k gens Done
 
 data Late (k : WaveVector) (gens : List Op) : Status → Type 0 where
@@ -118,7 +120,8 @@ refused_or_accepted gens no_memory n r a = n refl
 
 module _ (k : WaveVector) (gens : List Op) where
   large_or_not : (m n : ℕ) → IsOrder (group_of gens) k m → order_limit < m → IsOrder (group_of gens) k n → n ≤ order_limit → ⊥
-  large_or_not m n o l p h = let e : m ≡ n = order_unique (group_of gens) k m n o p in let f : order_limit < n = subst (λ x. order_limit < x) e l in omega arith
+  large_or_not m n o l p h = let e : m ≡ n = order_unique (group_of gens) k m n o p in let f : order_limit < n = subst
+      (λ x. order_limit < x) e l in omega arith
 
   one_or_more : (h : ℕ) → HasCoGroup (group_of gens) k h → 1 < h → HasCoGroup (group_of gens) k 1 → ⊥
   one_or_more h p l q = let e : h ≡ 1 = co_group_unique (group_of gens) k h 1 p q in omega arith
@@ -128,7 +131,8 @@ module _ (k : WaveVector) (gens : List Op) where
   in_group_unique (order_is_large {n = m} o l) (co_group_is_large {n = n} p h c i) = absurd (large_or_not m n o l p h)
   in_group_unique (order_is_large {n = m} o l) (is_done {n = n} p h c) = absurd (large_or_not m n o l p h)
   in_group_unique (co_group_is_large {n = n} p h c i) (order_is_large {n = m} o l) = absurd (large_or_not m n o l p h)
-  in_group_unique (co_group_is_large {h = g} p l c i) (co_group_is_large {h = h} q m d j) = ap (λ x. TooLarge (CoGroup x)) (co_group_unique (group_of gens) k g h c d)
+  in_group_unique (co_group_is_large {h = g} p l c i) (co_group_is_large {h = h} q m d j) = ap (λ x. TooLarge (CoGroup x))
+      (co_group_unique (group_of gens) k g h c d)
   in_group_unique (co_group_is_large {h = h} p l c i) (is_done q m d) = absurd (one_or_more h c i d)
   in_group_unique (is_done {n = n} p h c) (order_is_large {n = m} o l) = absurd (large_or_not m n o l p h)
   in_group_unique (is_done p l c) (co_group_is_large {h = h} q m d j) = absurd (one_or_more h d j c)
@@ -141,11 +145,15 @@ module _ (k : WaveVector) (gens : List Op) where
   late_unique (accepted a i) (accepted b j) = in_group_unique i j
 
 -- the same at another reading
-in_group_along : (k l : WaveVector) (gens hens : List Op) {s : Status} → k ≡ l → operations gens ≡ operations hens → InGroup k gens s → InGroup l hens s
-in_group_along k l gens hens e f (order_is_large {n = n} o h) = order_is_large (subst (λ x. IsOrder (group_of hens) x n) e (subst (λ gs. IsOrder (Generated gs) k n) f o)) h
-in_group_along k l gens hens e f (co_group_is_large {n = n} {h = h} o m c i) = co_group_is_large (subst (λ x. IsOrder (group_of hens) x n) e (subst (λ gs. IsOrder (Generated gs) k n) f o)) m
+in_group_along : (k l : WaveVector) (gens hens : List Op) {s : Status} → k ≡ l → operations gens ≡ operations hens → InGroup k gens s
+    → InGroup l hens s
+in_group_along k l gens hens e f (order_is_large {n = n} o h) = order_is_large
+    (subst (λ x. IsOrder (group_of hens) x n) e (subst (λ gs. IsOrder (Generated gs) k n) f o)) h
+in_group_along k l gens hens e f (co_group_is_large {n = n} {h = h} o m c i) = co_group_is_large
+    (subst (λ x. IsOrder (group_of hens) x n) e (subst (λ gs. IsOrder (Generated gs) k n) f o)) m
     (subst (λ x. HasCoGroup (group_of hens) x h) e (subst (λ gs. HasCoGroup (Generated gs) k h) f c)) i
-in_group_along k l gens hens e f (is_done {n = n} o m c) = is_done (subst (λ x. IsOrder (group_of hens) x n) e (subst (λ gs. IsOrder (Generated gs) k n) f o)) m
+in_group_along k l gens hens e f (is_done {n = n} o m c) = is_done
+    (subst (λ x. IsOrder (group_of hens) x n) e (subst (λ gs. IsOrder (Generated gs) k n) f o)) m
     (subst (λ x. HasCoGroup (group_of hens) x 1) e (subst (λ gs. HasCoGroup (Generated gs) k 1) f c))
 
 late_along : (k l : WaveVector) (gens hens : List Op) {s : Status} → k ≡ l → AreSame gens hens → Late k gens s → Late l hens s
@@ -153,14 +161,16 @@ late_along k l gens hens e same (refused d m p f) = refused d m (refusal_along d
 late_along k l gens hens e same (accepted a i) = accepted (accepted_along same a) (in_group_along k l gens hens e (operations_same same) i)
 
 same_spelled : (bytes : List ℕ) (gens hens : List Op) → SpellsGenerators bytes gens → SpellsGenerators bytes hens → AreSame gens hens
-same_spelled bytes gens hens s t = same_generators s.are_generators (subst (λ l. AreGenerators l hens) (lines_unique t.are_lines s.are_lines) t.are_generators)
+same_spelled bytes gens hens s t = same_generators s.are_generators
+    (subst (λ l. AreGenerators l hens) (lines_unique t.are_lines s.are_lines) t.are_generators)
 
 module _ (words : List (List ℕ)) (bytes : List ℕ) where
   stage_unique : {s t : Status} → Stage words bytes s → Stage words bytes t → s ≡ t
   stage_unique (early x) (early y) = early_unique words bytes x y
   stage_unique (early x) (late k gens a l) = absurd (early_or_late words bytes k gens x a)
   stage_unique (late k gens a l) (early x) = absurd (early_or_late words bytes k gens x a)
-  stage_unique (late k gens a l) (late j hens b m) = late_unique j hens (late_along k j gens hens (small_unique words k j a.is_small b.is_small) (same_spelled bytes gens hens a.spells b.spells) l) m
+  stage_unique (late k gens a l) (late j hens b m) = late_unique j hens
+      (late_along k j gens hens (small_unique words k j a.is_small b.is_small) (same_spelled bytes gens hens a.spells b.spells) l) m
 
   pub asked_status : {s t : Status} {x y : List ℕ} → Asks words bytes s x → Asks words bytes t y → s ≡ t
   asked_status p q = stage_unique (stage words bytes p) (stage words bytes q)

@@ -87,7 +87,8 @@ module _ {n : ℕ} (ops : Fin n → Operation) (P : Operation → Type 0) where
       rising (next a) first l = absurd (omega arith)
       rising (next a) (next b) l = p.increasing a b (omega arith)
 
-pub picked_numbering : (G P : Operation → Type 0) {n c : ℕ} (ops : Fin n → Operation) → IsNumbering G (λ _. Unit {0}) ops → (p : Picked ops P 0 c) → IsNumbering G P (λ j. ops (p.place j))
+pub picked_numbering : (G P : Operation → Type 0) {n c : ℕ} (ops : Fin n → Operation) → IsNumbering G (λ _. Unit {0}) ops → (p : Picked ops P 0 c)
+    → IsNumbering G P (λ j. ops (p.place j))
 picked_numbering G P ops h p = record {
   canonical = λ i. h.canonical (p.place i);
   member = p.meets;

@@ -28,13 +28,15 @@ pub record ReadSoFar (text rest : List ℕ) (gens : List Op) : Type 0 where
 pub none_read : (text : List ℕ) (gens : List Op) → gens ≡ [] → ReadSoFar text text gens
 none_read text gens e = record { lines = []; are_generators = subst (AreGenerators []) (sym e) none; continued = λ others l. l }
 
-generators_push : (lines : List (List ℕ)) (gens : List Op) (line : List ℕ) (g : Op) → AreGenerators lines gens → IsGeneratorLine line (operation g) → AreGenerators (lines ++ line ∷ []) (gens ++ g ∷ [])
+generators_push : (lines : List (List ℕ)) (gens : List Op) (line : List ℕ) (g : Op) → AreGenerators lines gens → IsGeneratorLine line (operation g)
+    → AreGenerators (lines ++ line ∷ []) (gens ++ g ∷ [])
 generators_push [] [] line g none h = more h none
 generators_push [] (y ∷ gens) line g r h = elim r [ ]
 generators_push (x ∷ lines) [] line g r h = elim r [ ]
 generators_push (x ∷ lines) (y ∷ gens) line g (more i r) h = more i (generators_push lines gens line g r h)
 
-pub one_read : (text rest line behind : List ℕ) (gens new : List Op) (g : Op) → ReadSoFar text rest gens → IsFirstLine rest line behind → IsGeneratorLine line (operation g)
+pub one_read : (text rest line behind : List ℕ) (gens new : List Op) (g : Op) → ReadSoFar text rest gens → IsFirstLine rest line behind
+    → IsGeneratorLine line (operation g)
     → new ≡ gens ++ g ∷ [] → ReadSoFar text behind new
 one_read text rest line behind gens new g r f h e = record {
   lines = r.lines ++ line ∷ [];
@@ -74,7 +76,8 @@ pub all_readable : (text : List ℕ) (gens : List Op) → SpellsGenerators text 
 all_readable text gens s = readable_generators s.are_generators
 
 -- a faulty line is not among lines of generators
-no_fault_among : (before behind : List (List ℕ)) (line : List ℕ) (gens : List Op) → AreGenerators (before ++ line ∷ behind) gens → ((g : Operation) → ¬ (IsGeneratorLine line g)) → ⊥
+no_fault_among : (before behind : List (List ℕ)) (line : List ℕ) (gens : List Op) → AreGenerators (before ++ line ∷ behind) gens
+    → ((g : Operation) → ¬ (IsGeneratorLine line g)) → ⊥
 no_fault_among [] behind line [] r f = elim r [ ]
 no_fault_among (x ∷ before) behind line [] r f = elim r [ ]
 no_fault_among [] behind line (g ∷ gens) (more h r) f = f (operation g) h
@@ -85,25 +88,30 @@ spelled_or_faulty text gens n s f = no_fault_among f.before f.behind f.line gens
     (subst (λ l. AreGenerators l gens) (lines_unique s.are_lines f.are_lines) s.are_generators) f.is_faulty
 
 -- the first faulty line stands at one place
-same_front : (xs ys s t : List (List ℕ)) (x y : List ℕ) (gens hens : List Op) → xs ++ x ∷ s ≡ ys ++ y ∷ t → AreGenerators xs gens → AreGenerators ys hens
+same_front : (xs ys s t : List (List ℕ)) (x y : List ℕ) (gens hens : List Op) → xs ++ x ∷ s ≡ ys ++ y ∷ t → AreGenerators xs gens
+    → AreGenerators ys hens
     → ((g : Operation) → ¬ (IsGeneratorLine x g)) → ((g : Operation) → ¬ (IsGeneratorLine y g)) → length xs ≡ length ys
 same_front [] [] s t x y gens hens e p q f h = refl
 same_front [] (z ∷ ys) s t x y gens [] e p q f h = elim q [ ]
 same_front (z ∷ xs) [] s t x y [] hens e p q f h = elim p [ ]
 same_front (z ∷ xs) (w ∷ ys) s t x y [] hens e p q f h = elim p [ ]
 same_front (z ∷ xs) (w ∷ ys) s t x y (g ∷ gens) [] e p q f h = elim q [ ]
-same_front [] (z ∷ ys) s t x y gens (g ∷ hens) e p (more i q) f h = absurd (let same : x ≡ z = cc in f (operation g) (subst (λ l. IsGeneratorLine l (operation g)) (sym same) i))
-same_front (z ∷ xs) [] s t x y (g ∷ gens) hens e (more i p) q f h = absurd (let same : z ≡ y = cc in h (operation g) (subst (λ l. IsGeneratorLine l (operation g)) same i))
+same_front [] (z ∷ ys) s t x y gens (g ∷ hens) e p (more i q) f h = absurd
+    (let same : x ≡ z = cc in f (operation g) (subst (λ l. IsGeneratorLine l (operation g)) (sym same) i))
+same_front (z ∷ xs) [] s t x y (g ∷ gens) hens e (more i p) q f h = absurd
+    (let same : z ≡ y = cc in h (operation g) (subst (λ l. IsGeneratorLine l (operation g)) same i))
 same_front (z ∷ xs) (w ∷ ys) s t x y (g ∷ gens) (k ∷ hens) e (more i p) (more j q) f h =
     let rest : xs ++ x ∷ s ≡ ys ++ y ∷ t = cc in ap suc (same_front xs ys s t x y gens hens rest p q f h)
 
 pub faulty_line_unique : (text : List ℕ) (m n : ℕ) → IsFaultyLine text m → IsFaultyLine text n → m ≡ n
 faulty_line_unique text m n f g = f.number
-    ∙ ap suc (same_front f.before g.before f.behind g.behind f.line g.line f.gens g.gens (lines_unique f.are_lines g.are_lines) f.are_generators g.are_generators f.is_faulty g.is_faulty)
+    ∙ ap suc (same_front f.before g.before f.behind g.behind f.line g.line f.gens g.gens
+    (lines_unique f.are_lines g.are_lines) f.are_generators g.are_generators f.is_faulty g.is_faulty)
     ∙ sym g.number
 
 -- a line that no operation's triplet is, by what the reader of triplets answers
-pub no_generator : (line : List ℕ) (r : Option Op) → ((g : Operation) → IsReadable g → line ≡ triplet_text g → IsSomeAnd r (λ op. operation op ≡ g)) → ((x : Op) → r ≡ Some x → ⊥)
+pub no_generator : (line : List ℕ) (r : Option Op) → ((g : Operation) → IsReadable g → line ≡ triplet_text g → IsSomeAnd r (λ op. operation op ≡ g))
+    → ((x : Op) → r ≡ Some x → ⊥)
     → (g : Operation) → ¬ (IsGeneratorLine line g)
 no_generator line None only n g h = only g h.readable h.printed
 no_generator line (Some op) only n g h = n op refl

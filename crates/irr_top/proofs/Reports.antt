@@ -33,8 +33,10 @@ pub record AskedReport (words : List (List ℕ)) (bytes : List ℕ) (w : WaveVec
   pub asks : Asks words bytes Done (report_text content)
   pub text : report_text content ≡ one_operation_text w n
 
-module _ (words : List (List ℕ)) (bytes : List ℕ) (k w : WaveVector) (n h : ℕ) (group : Group) (gens : List Op) (is : IsGroupOf group gens) (asked : IsAsked words bytes k gens)
-    (accepted : IsAccepted gens) (order : IsOrder (group_of gens) k n) (within : n ≤ order_limit) (elements : HasCoGroup (group_of gens) k h) (not_more : 1 < h → ⊥)
+module _ (words : List (List ℕ)) (bytes : List ℕ) (k w : WaveVector) (n h : ℕ) (group : Group) (gens : List Op) (is : IsGroupOf group gens)
+    (asked : IsAsked words bytes k gens)
+    (accepted : IsAccepted gens) (order : IsOrder (group_of gens) k n) (within : n ≤ order_limit) (elements : HasCoGroup (group_of gens) k h)
+    (not_more : 1 < h → ⊥)
     (reduced : IsReduced (group_of gens) k w) where
   one : HasCoGroup (group_of gens) k 1
   one = one_element (group_of gens) (is_group group gens is) (has_canonical group gens is) k h elements not_more
@@ -47,8 +49,11 @@ module _ (words : List (List ℕ)) (bytes : List ℕ) (k w : WaveVector) (n h : 
 
   pub asked_report : AskedReport words bytes w n
   asked_report = record {
-    content = one_operation_report (group_of gens) (is_group group gens is) (has_canonical group gens is) minus k w reduced one.ops numbering n order_there;
-    asks = report k gens (one_operation_report (group_of gens) (is_group group gens is) (has_canonical group gens is) minus k w reduced one.ops numbering n order_there) asked accepted order within one
-        (one_operation_report-is_report (group_of gens) (is_group group gens is) (has_canonical group gens is) minus k w reduced one.ops numbering n order_there);
+    content = one_operation_report (group_of gens) (is_group group gens is)
+        (has_canonical group gens is) minus k w reduced one.ops numbering n order_there;
+    asks = report k gens (one_operation_report (group_of gens) (is_group group gens is)
+        (has_canonical group gens is) minus k w reduced one.ops numbering n order_there) asked accepted order within one
+        (one_operation_report-is_report (group_of gens) (is_group group gens is)
+        (has_canonical group gens is) minus k w reduced one.ops numbering n order_there);
     text = text_of_report (group_of gens) (is_group group gens is) (has_canonical group gens is) minus k w reduced one.ops numbering n order_there;
   }

@@ -26,7 +26,8 @@ pub data AreSame : List Op → List Op → Type 0 where
 
 pub same_generators : {lines : List (List ℕ)} {gens hens : List Op} → AreGenerators lines gens → AreGenerators lines hens → AreSame gens hens
 same_generators none none = nothing
-same_generators (more {g = g} h r) (more {g = k} i s) = pair (triplet_unique (operation g) (operation k) h.readable i.readable (sym h.printed ∙ i.printed)) (same_generators r s)
+same_generators (more {g = g} h r) (more {g = k} i s) = pair (triplet_unique (operation g) (operation k) h.readable i.readable
+    (sym h.printed ∙ i.printed)) (same_generators r s)
 
 flipped : {gens hens : List Op} → AreSame gens hens → AreSame hens gens
 flipped nothing = nothing
@@ -55,7 +56,12 @@ small_along s h = record { common = h.common; positive = h.positive; small = h.s
 pub refusal_along : {gens hens : List Op} (e : CloseError) → AreSame gens hens → IsRefusal gens e → IsRefusal hens e
 refusal_along Rotations s r = subst (λ l. ¬ (HasFewRotations l)) (operations_same s) r
 refusal_along Denominator s r = (subst HasFewRotations (operations_same s) r.0, λ h. r.1 (small_along (flipped s) h))
-refusal_along Centrings s r = (subst HasFewRotations (operations_same s) r.0, small_along s r.1, subst (λ l. ¬ (HasFewCentrings l)) (operations_same s) r.2)
+refusal_along Centrings s r = (
+  subst HasFewRotations (operations_same s) r.0,
+  small_along s r.1,
+  subst (λ l. ¬ (HasFewCentrings l))
+      (operations_same s) r.2,
+)
 refusal_along Memory s r = r
 
 pub accepted_along : {gens hens : List Op} → AreSame gens hens → IsAccepted gens → IsAccepted hens

@@ -1,8 +1,8 @@
 -- What words and the bytes of an input ask for: a status, and the text that is to be written with it.
 --   IsAsked words bytes k gens         the words spell the wave vector k, and the input the generators
---   Asks words bytes s text            the first of these that holds decides: faulty words; too many bytes; a faulty line; too many rotations or one with too
---                                      large an entry, too large a common denominator, too many centrings; too large an order; a little co-group of more
---                                      than one element; and else the text of a report of the small representations
+--   Asks words bytes s text            the first of these that holds decides: faulty words; too many bytes; a faulty line; too many rotations or
+--                                      one with too large an entry, too large a common denominator, too many centrings; too large an order;
+--                                      a little co-group of more than one element; and else the text of a report of the small representations
 --   IsAllOf left bytes                 the bytes are all that a source has left, where it tells
 use Rattle.std.specs.Prelude.{ℕ, ◌≡◌, ◌<◌, ◌≤◌, ⊤, Option, None, Some, List, length}
 use Rattle.irr_space.specs.Operation.{WaveVector}
@@ -47,11 +47,14 @@ pub data Asks (words : List (List ℕ)) (bytes : List ℕ) : Status → List ℕ
       → Asks words bytes (TooLarge Denominator) (refusal_text (TooLarge Denominator))
   centrings : (k : WaveVector) (gens : List Op) → IsAsked words bytes k gens → IsRefusal gens too_many_centrings
       → Asks words bytes (TooLarge Centrings) (refusal_text (TooLarge Centrings))
-  order_too_large : {n : ℕ} (k : WaveVector) (gens : List Op) → IsAsked words bytes k gens → IsAccepted gens → IsOrder (group_of gens) k n → order_limit < n
+  order_too_large : {n : ℕ} (k : WaveVector) (gens : List Op) → IsAsked words bytes k gens → IsAccepted gens → IsOrder (group_of gens) k n
+      → order_limit < n
       → Asks words bytes (TooLarge (Order n)) (refusal_text (TooLarge (Order n)))
-  co_group : {n h : ℕ} (k : WaveVector) (gens : List Op) → IsAsked words bytes k gens → IsAccepted gens → IsOrder (group_of gens) k n → n ≤ order_limit
+  co_group : {n h : ℕ} (k : WaveVector) (gens : List Op) → IsAsked words bytes k gens → IsAccepted gens → IsOrder (group_of gens) k n
+      → n ≤ order_limit
       → HasCoGroup (group_of gens) k h → 1 < h → Asks words bytes (TooLarge (CoGroup h)) (refusal_text (TooLarge (CoGroup h)))
-  report : {n : ℕ} (k : WaveVector) (gens : List Op) (r : ReportContent) → IsAsked words bytes k gens → IsAccepted gens → IsOrder (group_of gens) k n → n ≤ order_limit
+  report : {n : ℕ} (k : WaveVector) (gens : List Op) (r : ReportContent) → IsAsked words bytes k gens → IsAccepted gens → IsOrder (group_of gens) k n
+      → n ≤ order_limit
       → HasCoGroup (group_of gens) k 1 → IsReportOf minus (group_of gens) k r → Asks words bytes Done (report_text r)
 
 abbrev pub IsAllOf : Option (List ℕ) → List ℕ → Type 0

@@ -13,17 +13,20 @@ use Rattle.irr_top.specs.declared.status.Status.TheVariants.{WriteFault, Memory}
 
 pub data Ended (s : Status) (text : List ℕ) (faults faulted : ℕ) (held holds : Option (List ℕ)) (wrote writes : Option ℕ) : Status → Type 0 where
   whole : Gains held holds text → CountsAtMost (length text) wrote writes → Ended s text faults faulted held holds wrote writes s
-  cut_off : Rose faults faulted → Gained held holds (StartsWith text) → CountsAtMost (length text) wrote writes → Ended s text faults faulted held holds wrote writes WriteFault
+  cut_off : Rose faults faulted → Gained held holds (StartsWith text) → CountsAtMost (length text) wrote writes
+      → Ended s text faults faulted held holds wrote writes WriteFault
   no_memory : holds ≡ held → Ended s text faults faulted held holds wrote writes Memory
 
 -- what words and bytes ask for, and how the writing of its text ended
-pub record Serves (words : List (List ℕ)) (bytes : List ℕ) (faults faulted : ℕ) (held holds : Option (List ℕ)) (wrote writes : Option ℕ) (result : Status) : Type 0 where
+pub record Serves (words : List (List ℕ)) (bytes : List ℕ) (faults faulted : ℕ) (held holds : Option (List ℕ)) (wrote writes : Option ℕ)
+    (result : Status) : Type 0 where
   pub status : Status
   pub text : List ℕ
   pub asks : Asks words bytes status text
   pub ended : Ended status text faults faulted held holds wrote writes result
 
 -- served, or stopped for want of memory
-pub data Replies (words : List (List ℕ)) (bytes : List ℕ) (faults faulted : ℕ) (held holds : Option (List ℕ)) (wrote writes : Option ℕ) : Status → Type 0 where
+pub data Replies (words : List (List ℕ)) (bytes : List ℕ) (faults faulted : ℕ) (held holds : Option (List ℕ)) (wrote writes : Option ℕ) : Status
+    → Type 0 where
   serves : {t : Status} → Serves words bytes faults faulted held holds wrote writes t → Replies words bytes faults faulted held holds wrote writes t
   without_memory : holds ≡ held → Replies words bytes faults faulted held holds wrote writes Memory

@@ -3,6 +3,7 @@
 
 mod answer;
 mod input;
+mod laws;
 mod refusal;
 mod small_group;
 mod status;
@@ -10,6 +11,7 @@ mod top;
 mod wave;
 mod words;
 
+pub use laws::one_status_is_asked_for;
 pub use refusal::text_refusal;
 pub use status::{Kind, Reason, Status};
 pub use top::run;

@@ -155,6 +155,7 @@ fn input_is_limited_and_faults_are_told(rt: HostRuntime) -> Result<(), Fail> {
 
 #[test]
 fn a_line_of_a_refusal_is_made(rt: HostRuntime) -> Result<(), Fail> {
+    one_status_is_asked_for();
     let status = Status::BadInput {
         line: 2,
         reason: Reason::Shape(3),

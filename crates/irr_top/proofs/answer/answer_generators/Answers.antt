@@ -19,13 +19,15 @@ pub answer_group-requires-clause-group : goal.answer_group-requires-clause-group
 answer_group-requires-clause-group g c = (c.args.gens.now, record { readable = c.requires.readable; stands = c.in-Ok.ensures.group })
 
 pub returns-in-Ok : goal.returns-in-Ok
-returns-in-Ok g c = λ words bytes a. c.answer_group.ensures words bytes c.args.gens.now a c.in-Ok.ensures.accepted (record { readable = c.requires.readable; stands = c.in-Ok.ensures.group })
+returns-in-Ok g c = λ words bytes a. c.answer_group.ensures words bytes c.args.gens.now a c.in-Ok.ensures.accepted
+    (record { readable = c.requires.readable; stands = c.in-Ok.ensures.group })
 
 pub returns-in-Err-Rotations : goal.returns-in-Err-Rotations
 returns-in-Err-Rotations g c = λ words bytes a. serves (record {
   status = TooLarge Rotations;
   text = refusal_text (TooLarge Rotations);
-  asks = rotations (wave_vector c.args.wave.now) c.args.gens.now a (let f = rw c.in-Err-Rotations.field-0-is at c.in-Err-Rotations.ensures.refused in f);
+  asks = rotations (wave_vector c.args.wave.now) c.args.gens.now a
+      (let f = rw c.in-Err-Rotations.field-0-is at c.in-Err-Rotations.ensures.refused in f);
   ended = c.refuse.ensures;
 })
 
@@ -33,7 +35,8 @@ pub returns-in-Err-Denominator : goal.returns-in-Err-Denominator
 returns-in-Err-Denominator g c = λ words bytes a. serves (record {
   status = TooLarge Denominator;
   text = refusal_text (TooLarge Denominator);
-  asks = denominator (wave_vector c.args.wave.now) c.args.gens.now a (let f = rw c.in-Err-Denominator.field-0-is at c.in-Err-Denominator.ensures.refused in f);
+  asks = denominator (wave_vector c.args.wave.now) c.args.gens.now a
+      (let f = rw c.in-Err-Denominator.field-0-is at c.in-Err-Denominator.ensures.refused in f);
   ended = c.refuse-in-Err-Denominator.ensures;
 })
 
@@ -41,7 +44,8 @@ pub returns-in-Err-Centrings : goal.returns-in-Err-Centrings
 returns-in-Err-Centrings g c = λ words bytes a. serves (record {
   status = TooLarge Centrings;
   text = refusal_text (TooLarge Centrings);
-  asks = centrings (wave_vector c.args.wave.now) c.args.gens.now a (let f = rw c.in-Err-Centrings.field-0-is at c.in-Err-Centrings.ensures.refused in f);
+  asks = centrings (wave_vector c.args.wave.now) c.args.gens.now a
+      (let f = rw c.in-Err-Centrings.field-0-is at c.in-Err-Centrings.ensures.refused in f);
   ended = c.refuse-in-Err-Centrings.ensures;
 })
 

@@ -15,11 +15,17 @@ use Rattle.irr_top.proofs.Reading.{all_readable}
 use Rattle.irr_top.proofs.answer.answer_input.Goals as goal
 
 pub answer_generators-requires-clause-readable : goal.answer_generators-requires-clause-readable
-answer_generators-requires-clause-readable g c = subst (λ (gs : List Op). All (λ x. IsReadable (operation x)) gs) (sym c.deref.ensures.value) (all_readable c.args.bytes.now c.in-Ok.gens.items c.in-Ok.ensures.spelled)
+answer_generators-requires-clause-readable g c = subst (λ (gs : List Op). All (λ x. IsReadable (operation x)) gs) (sym c.deref.ensures.value)
+    (all_readable c.args.bytes.now c.in-Ok.gens.items c.in-Ok.ensures.spelled)
 
 pub returns-in-Ok : goal.returns-in-Ok
 returns-in-Ok g c = λ words s. c.answer_generators.ensures words c.args.bytes.now
-    (record { is_small = s; within = c.requires.within; spells = subst (SpellsGenerators c.args.bytes.now) (sym c.deref.ensures.value) c.in-Ok.ensures.spelled })
+    (record {
+      is_small = s;
+      within = c.requires.within;
+      spells = subst (SpellsGenerators c.args.bytes.now)
+          (sym c.deref.ensures.value) c.in-Ok.ensures.spelled;
+    })
 
 pub returns-in-Err-Line : goal.returns-in-Err-Line
 returns-in-Err-Line g c = λ words s. serves (record {

@@ -19,5 +19,7 @@ pub equivalent-requires-clause-other_limits : goal.equivalent-requires-clause-ot
 equivalent-requires-clause-other_limits c = wave_limits c.args.wave.now c.requires.limits
 
 pub returns : goal.returns
-returns c = λ gens group h e m. kept group gens h c.equivalent.result (operation c.args.op.now) (wave_vector c.args.wave.now) (wave_vector c.act.result) m c.act.ensures.turned_back
-    (subst (λ cs. IsTrue c.equivalent.result ↔ AreEquivalent (LatticeOf cs) (wave_vector c.act.result) (wave_vector c.args.wave.now)) (sym e) c.equivalent.ensures)
+returns c = λ gens group h e m. kept group gens h c.equivalent.result (operation c.args.op.now) (wave_vector c.args.wave.now)
+    (wave_vector c.act.result) m c.act.ensures.turned_back
+    (subst (λ cs. IsTrue c.equivalent.result ↔ AreEquivalent (LatticeOf cs) (wave_vector c.act.result) (wave_vector c.args.wave.now))
+    (sym e) c.equivalent.ensures)
