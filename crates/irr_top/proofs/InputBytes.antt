@@ -17,11 +17,17 @@ at_end None (Some new) bytes h = absurd h
 at_end (Some old) None bytes h = absurd h
 at_end (Some old) (Some new) bytes h = h.1
 
-pub too_many : (limit : ℕ) (old new : Option (List ℕ)) → Took old new (λ piece. limit < length piece) → (bytes : List ℕ) × (IsAllOf old bytes) × (limit < length bytes)
+pub too_many : (limit : ℕ) (old new : Option (List ℕ)) → Took old new (λ piece. limit < length piece) → (bytes : List ℕ) × (IsAllOf old bytes) ×
+    (limit < length bytes)
 too_many limit None None t = (t.0, tt, t.2)
 too_many limit None (Some new) t = absurd t.1
 too_many limit (Some old) None t = absurd t.1
-too_many limit (Some old) (Some new) t = (old, refl, let l : limit < length t.0 = t.2 in let e : length old ≡ length t.0 + length new = ap length t.1 ∙ length-append t.0 new in omega arith)
+too_many limit (Some old) (Some new) t = (
+  old,
+  refl,
+  let l : limit < length t.0 = t.2 in let e : length old ≡ length t.0 + length new = ap length t.1
+      ∙ length-append t.0 new in omega arith,
+)
 
 -- some bytes are all that a source had
 pub some_bytes : (old : Option (List ℕ)) → (bytes : List ℕ) × IsAllOf old bytes

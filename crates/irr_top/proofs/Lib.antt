@@ -2,6 +2,14 @@ pub mod WaveForms
 pub mod WaveReading
 pub mod WordPlaces
 pub mod OneAnswer
-pub mod Orders
 pub mod InputBytes
+pub mod Reading
+pub mod Numerators
+pub mod Determinants
+pub mod Groups
+pub mod Picking
+pub mod CoGroups
+pub mod Reports
+pub mod Counting
 pub mod Outcomes
+pub mod SameGenerators

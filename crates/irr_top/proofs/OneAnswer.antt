@@ -1,17 +1,30 @@
 -- Words and bytes ask for one status.
 --   order_unique       a wave vector has one order
 --   asked_status       what is asked for is one status
-use Rattle.std.proofs.Common.{◌≡◌, ◌≢◌, sym, ◌∙◌, ap, ap₂, subst, refl, ℕ, suc, ◌<◌, ◌≤◌, ◌*◌, List, [], length, arith}
+use Rattle.std.proofs.Common.{◌≡◌, ◌≢◌, refl, sym, ◌∙◌, ap, ap₂, subst, ℕ, ◌<◌, ◌≤◌, ◌*◌, List, length, arith}
 use Rattle.irr_space.specs.Operation.{Operation, WaveVector}
 use Rattle.irr_space.specs.SpaceGroup.{Generated, IsExponent}
 use Rattle.irr_space.specs.Reciprocal.{IsOrder, IsPeriod}
+use Rattle.irr_seitz.specs.declared.op.Op.{Op}
+use Rattle.irr_lines.proofs.AllLines.{lines_unique}
+use Rattle.irr_close.specs.Limits.{operations}
+use Rattle.irr_close.specs.StandsFor.{IsRefusal, IsAccepted}
+use Rattle.irr_close.specs.declared.CloseError.{CloseError}
+use Rattle.irr_close.specs.declared.CloseError.TheVariants.{Rotations as many_rotations, Denominator as large_denominator, Centrings as many_centrings, Memory as no_memory}
 use Rattle.irr_top.specs.Command.{IsSmall, IsCommand, IsFaulty}
-use Rattle.irr_top.specs.Asked.{Asks, IsAsked, SpellsGenerators, input_limit, order_limit}
-use Rattle.irr_top.specs.Asked.Asks.{usage, too_long, faulty_line, order_too_large, report}
+use Rattle.irr_top.specs.Generators.{AreGenerators, SpellsGenerators, IsFaultyLine}
+use Rattle.irr_top.specs.CoGroup.{HasCoGroup}
+use Rattle.irr_top.specs.GroupOf.{group_of}
+use Rattle.irr_top.specs.Asked.{Asks, IsAsked, input_limit, order_limit}
+use Rattle.irr_top.specs.Asked.Asks.{usage, too_long, faulty_line, rotations, denominator, centrings, order_too_large, co_group, report}
 use Rattle.irr_top.specs.declared.status.Status.{Status}
-use Rattle.irr_top.specs.declared.status.Status.TheVariants.{Done, Usage, BadInput, TooLarge}
-use Rattle.irr_top.specs.declared.status.Kind.TheVariants.{Order}
+use Rattle.irr_top.specs.declared.status.Status.TheVariants.{Done, Usage, BadInput, TooLarge, Memory}
+use Rattle.irr_top.specs.declared.status.Reason.TheVariants.{Shape}
+use Rattle.irr_top.specs.declared.status.Kind.TheVariants.{Bytes, Rotations, Denominator, Centrings, Order, CoGroup}
 use Rattle.irr_top.proofs.WordPlaces.{small_unique, faulty_unique}
+use Rattle.irr_top.proofs.Reading.{spelled_or_faulty, faulty_line_unique}
+use Rattle.irr_top.proofs.SameGenerators.{AreSame, same_generators, operations_same, refusal_along, accepted_along}
+use Rattle.irr_top.proofs.CoGroups.{co_group_unique}
 
 module _ (G : Operation → Type 0) where
   exponent_unique : (d e : ℕ) → IsExponent G d → IsExponent G e → d ≡ e
@@ -21,46 +34,143 @@ module _ (G : Operation → Type 0) where
   period_unique k d e p q = let a : d ≤ e = p.least e q.positive q.reciprocal in let b : e ≤ d = q.least d p.positive p.reciprocal in omega arith
 
   pub order_unique : (k : WaveVector) (m n : ℕ) → IsOrder G k m → IsOrder G k n → m ≡ n
-  order_unique k m n p q = p.is_product ∙ ap₂ (λ x y. x * y) (exponent_unique p.exponent q.exponent p.is_exponent q.is_exponent) (period_unique k p.period q.period p.is_period q.is_period) ∙ sym q.is_product
+  order_unique k m n p q = p.is_product ∙ ap₂ (λ x y. x * y) (exponent_unique p.exponent q.exponent p.is_exponent q.is_exponent)
+      (period_unique k p.period q.period p.is_period q.is_period) ∙ sym q.is_product
+
+-- before the group is made
+data Early (words : List (List ℕ)) (bytes : List ℕ) : Status → Type 0 where
+  words_are_faulty : {n : ℕ} → IsFaulty words n → Early words bytes (Usage n)
+  bytes_are_many : IsCommand words → input_limit < length bytes → Early words bytes (TooLarge Bytes)
+  line_is_faulty : {n : ℕ} → IsCommand words → length bytes ≤ input_limit → IsFaultyLine bytes n → Early words bytes (BadInput n (Shape 0))
+
+-- the status of generators that are refused
+refused_status : CloseError → Status
+refused_status many_rotations = TooLarge Rotations
+refused_status large_denominator = TooLarge Denominator
+refused_status many_centrings = TooLarge Centrings
+refused_status no_memory = Memory
+
+-- at a wave vector of a group
+data InGroup (k : WaveVector) (gens : List Op) : Status → Type 0 where
+  order_is_large : {n : ℕ} → IsOrder (group_of gens) k n → order_limit < n → InGroup k gens (TooLarge (Order n))
+  co_group_is_large : {n h : ℕ} → IsOrder (group_of gens) k n → n ≤ order_limit → HasCoGroup (group_of gens) k h → 1 < h → InGroup k gens
+      (TooLarge (CoGroup h))
+  is_done : {n : ℕ} → IsOrder (group_of gens) k n → n ≤ order_limit → HasCoGroup (group_of gens) k 1 → InGroup k gens Done
+
+data Late (k : WaveVector) (gens : List Op) : Status → Type 0 where
+  refused : (e : CloseError) → e ≢ no_memory → IsRefusal gens e → {s : Status} → s ≡ refused_status e → Late k gens s
+  accepted : IsAccepted gens → {s : Status} → InGroup k gens s → Late k gens s
+
+data Stage (words : List (List ℕ)) (bytes : List ℕ) (s : Status) : Type 0 where
+  early : Early words bytes s → Stage words bytes s
+  late : (k : WaveVector) (gens : List Op) → IsAsked words bytes k gens → Late k gens s → Stage words bytes s
 
 module _ (words : List (List ℕ)) (bytes : List ℕ) where
-  -- the orders that two readings of the words and the bytes have are one
-  same_order : (k l : WaveVector) (gens hens : List Operation) (m n : ℕ) → IsAsked words bytes k gens → IsAsked words bytes l hens → IsOrder (Generated gens) k m → IsOrder (Generated hens) l n → m ≡ n
-  same_order k l gens hens m n a b p q = order_unique (Generated gens) k m n p
-      (subst (λ w. IsOrder (Generated gens) w n) (sym (small_unique words k l a.is_small b.is_small)) (subst (λ hs. IsOrder (Generated hs) l n) (b.spells.no_generators ∙ sym a.spells.no_generators) q))
-
-  no_line : (k : WaveVector) (gens : List Operation) → IsAsked words bytes k gens → bytes ≢ [] → ⊥
-  no_line k gens a ne = ne a.spells.no_lines
+  stage : {s : Status} {text : List ℕ} → Asks words bytes s text → Stage words bytes s
+  unfolding refused_status
+  stage (usage p) = early (words_are_faulty p)
+  stage (too_long c l) = early (bytes_are_many c l)
+  stage (faulty_line c l f) = early (line_is_faulty c l f)
+  stage (rotations k gens a r) = late k gens a (refused many_rotations (λ e. cc) r refl)
+  stage (denominator k gens a r) = late k gens a (refused large_denominator (λ e. cc) r refl)
+  stage (centrings k gens a r) = late k gens a (refused many_centrings (λ e. cc) r refl)
+  stage (order_too_large k gens a i o l) = late k gens a (accepted i (order_is_large o l))
+  stage (co_group k gens a i o l h m) = late k gens a (accepted i (co_group_is_large o l h m))
+  stage (report k gens r a i o l h is) = late k gens a (accepted i (is_done o l h))
 
   too_many : (n m : ℕ) → n ≤ m → m < n → ⊥
   too_many n m l h = omega arith
 
-  command : (k : WaveVector) (gens : List Operation) → IsAsked words bytes k gens → IsCommand words
-  command k gens a = (k, a.is_small)
+  early_unique : {s t : Status} → Early words bytes s → Early words bytes t → s ≡ t
+  early_unique (words_are_faulty {n = m} p) (words_are_faulty {n = n} q) = ap Usage (faulty_unique words m n p q)
+  early_unique (words_are_faulty p) (bytes_are_many c l) = absurd (p.no_command c)
+  early_unique (words_are_faulty p) (line_is_faulty c l f) = absurd (p.no_command c)
+  early_unique (bytes_are_many c l) (words_are_faulty q) = absurd (q.no_command c)
+  early_unique (bytes_are_many c l) (bytes_are_many d m) = refl
+  early_unique (bytes_are_many c l) (line_is_faulty d m f) = absurd (too_many (length bytes) input_limit m l)
+  early_unique (line_is_faulty c l f) (words_are_faulty q) = absurd (q.no_command c)
+  early_unique (line_is_faulty c l f) (bytes_are_many d m) = absurd (too_many (length bytes) input_limit l m)
+  early_unique (line_is_faulty {n = m} c l f) (line_is_faulty {n = n} d i g) = ap (λ x. BadInput x (Shape 0)) (faulty_line_unique bytes m n f g)
+
+  early_or_late : {s : Status} (k : WaveVector) (gens : List Op) → Early words bytes s → IsAsked words bytes k gens → ⊥
+  early_or_late k gens (words_are_faulty p) a = p.no_command (k, a.is_small)
+  early_or_late k gens (bytes_are_many c l) a = too_many (length bytes) input_limit a.within l
+  early_or_late k gens (line_is_faulty {n = n} c l f) a = spelled_or_faulty bytes gens n a.spells f
+
+refusal_unique : (gens : List Op) (d e : CloseError) → d ≢ no_memory → e ≢ no_memory → IsRefusal gens d → IsRefusal gens e → d ≡ e
+refusal_unique gens no_memory e m n p q = absurd (m refl)
+refusal_unique gens many_rotations many_rotations m n p q = refl
+refusal_unique gens many_rotations large_denominator m n p q = absurd (p q.0)
+refusal_unique gens many_rotations many_centrings m n p q = absurd (p q.0)
+refusal_unique gens many_rotations no_memory m n p q = absurd (n refl)
+refusal_unique gens large_denominator many_rotations m n p q = absurd (q p.0)
+refusal_unique gens large_denominator large_denominator m n p q = refl
+refusal_unique gens large_denominator many_centrings m n p q = absurd (p.1 q.1)
+refusal_unique gens large_denominator no_memory m n p q = absurd (n refl)
+refusal_unique gens many_centrings many_rotations m n p q = absurd (q p.0)
+refusal_unique gens many_centrings large_denominator m n p q = absurd (q.1 p.1)
+refusal_unique gens many_centrings many_centrings m n p q = refl
+refusal_unique gens many_centrings no_memory m n p q = absurd (n refl)
+
+refused_or_accepted : (gens : List Op) (e : CloseError) → e ≢ no_memory → IsRefusal gens e → IsAccepted gens → ⊥
+refused_or_accepted gens many_rotations n r a = r a.rotations
+refused_or_accepted gens large_denominator n r a = r.1 a.denominator
+refused_or_accepted gens many_centrings n r a = r.2 a.centrings
+refused_or_accepted gens no_memory n r a = n refl
+
+module _ (k : WaveVector) (gens : List Op) where
+  large_or_not : (m n : ℕ) → IsOrder (group_of gens) k m → order_limit < m → IsOrder (group_of gens) k n → n ≤ order_limit → ⊥
+  large_or_not m n o l p h = let e : m ≡ n = order_unique (group_of gens) k m n o p in let f : order_limit < n = subst
+      (λ x. order_limit < x) e l in omega arith
+
+  one_or_more : (h : ℕ) → HasCoGroup (group_of gens) k h → 1 < h → HasCoGroup (group_of gens) k 1 → ⊥
+  one_or_more h p l q = let e : h ≡ 1 = co_group_unique (group_of gens) k h 1 p q in omega arith
+
+  in_group_unique : {s t : Status} → InGroup k gens s → InGroup k gens t → s ≡ t
+  in_group_unique (order_is_large {n = m} o l) (order_is_large {n = n} p h) = ap (λ x. TooLarge (Order x)) (order_unique (group_of gens) k m n o p)
+  in_group_unique (order_is_large {n = m} o l) (co_group_is_large {n = n} p h c i) = absurd (large_or_not m n o l p h)
+  in_group_unique (order_is_large {n = m} o l) (is_done {n = n} p h c) = absurd (large_or_not m n o l p h)
+  in_group_unique (co_group_is_large {n = n} p h c i) (order_is_large {n = m} o l) = absurd (large_or_not m n o l p h)
+  in_group_unique (co_group_is_large {h = g} p l c i) (co_group_is_large {h = h} q m d j) = ap (λ x. TooLarge (CoGroup x))
+      (co_group_unique (group_of gens) k g h c d)
+  in_group_unique (co_group_is_large {h = h} p l c i) (is_done q m d) = absurd (one_or_more h c i d)
+  in_group_unique (is_done {n = n} p h c) (order_is_large {n = m} o l) = absurd (large_or_not m n o l p h)
+  in_group_unique (is_done p l c) (co_group_is_large {h = h} q m d j) = absurd (one_or_more h d j c)
+  in_group_unique (is_done p l c) (is_done q m d) = refl
+
+  late_unique : {s t : Status} → Late k gens s → Late k gens t → s ≡ t
+  late_unique (refused d m p e) (refused f n q g) = e ∙ ap refused_status (refusal_unique gens d f m n p q) ∙ sym g
+  late_unique (refused d m p e) (accepted a i) = absurd (refused_or_accepted gens d m p a)
+  late_unique (accepted a i) (refused d m p e) = absurd (refused_or_accepted gens d m p a)
+  late_unique (accepted a i) (accepted b j) = in_group_unique i j
+
+-- the same at another reading
+in_group_along : (k l : WaveVector) (gens hens : List Op) {s : Status} → k ≡ l → operations gens ≡ operations hens → InGroup k gens s
+    → InGroup l hens s
+in_group_along k l gens hens e f (order_is_large {n = n} o h) = order_is_large
+    (subst (λ x. IsOrder (group_of hens) x n) e (subst (λ gs. IsOrder (Generated gs) k n) f o)) h
+in_group_along k l gens hens e f (co_group_is_large {n = n} {h = h} o m c i) = co_group_is_large
+    (subst (λ x. IsOrder (group_of hens) x n) e (subst (λ gs. IsOrder (Generated gs) k n) f o)) m
+    (subst (λ x. HasCoGroup (group_of hens) x h) e (subst (λ gs. HasCoGroup (Generated gs) k h) f c)) i
+in_group_along k l gens hens e f (is_done {n = n} o m c) = is_done
+    (subst (λ x. IsOrder (group_of hens) x n) e (subst (λ gs. IsOrder (Generated gs) k n) f o)) m
+    (subst (λ x. HasCoGroup (group_of hens) x 1) e (subst (λ gs. HasCoGroup (Generated gs) k 1) f c))
+
+late_along : (k l : WaveVector) (gens hens : List Op) {s : Status} → k ≡ l → AreSame gens hens → Late k gens s → Late l hens s
+late_along k l gens hens e same (refused d m p f) = refused d m (refusal_along d same p) f
+late_along k l gens hens e same (accepted a i) = accepted (accepted_along same a) (in_group_along k l gens hens e (operations_same same) i)
+
+same_spelled : (bytes : List ℕ) (gens hens : List Op) → SpellsGenerators bytes gens → SpellsGenerators bytes hens → AreSame gens hens
+same_spelled bytes gens hens s t = same_generators s.are_generators
+    (subst (λ l. AreGenerators l hens) (lines_unique t.are_lines s.are_lines) t.are_generators)
+
+module _ (words : List (List ℕ)) (bytes : List ℕ) where
+  stage_unique : {s t : Status} → Stage words bytes s → Stage words bytes t → s ≡ t
+  stage_unique (early x) (early y) = early_unique words bytes x y
+  stage_unique (early x) (late k gens a l) = absurd (early_or_late words bytes k gens x a)
+  stage_unique (late k gens a l) (early x) = absurd (early_or_late words bytes k gens x a)
+  stage_unique (late k gens a l) (late j hens b m) = late_unique j hens
+      (late_along k j gens hens (small_unique words k j a.is_small b.is_small) (same_spelled bytes gens hens a.spells b.spells) l) m
 
   pub asked_status : {s t : Status} {x y : List ℕ} → Asks words bytes s x → Asks words bytes t y → s ≡ t
-  asked_status (usage {n = m} p) (usage {n = n} q) = ap Usage (faulty_unique words m n p q)
-  asked_status (usage p) (too_long c l) = absurd (p.no_command c)
-  asked_status (usage p) (faulty_line c l e) = absurd (p.no_command c)
-  asked_status (usage p) (order_too_large k gens a o l) = absurd (p.no_command (command k gens a))
-  asked_status (usage p) (report k gens r a o l i) = absurd (p.no_command (command k gens a))
-  asked_status (too_long c l) (usage q) = absurd (q.no_command c)
-  asked_status (too_long c l) (too_long d m) = refl
-  asked_status (too_long c l) (faulty_line d m e) = absurd (too_many (length bytes) input_limit m l)
-  asked_status (too_long c l) (order_too_large k gens a o m) = absurd (too_many (length bytes) input_limit a.within l)
-  asked_status (too_long c l) (report k gens r a o m i) = absurd (too_many (length bytes) input_limit a.within l)
-  asked_status (faulty_line c l e) (usage q) = absurd (q.no_command c)
-  asked_status (faulty_line c l e) (too_long d m) = absurd (too_many (length bytes) input_limit l m)
-  asked_status (faulty_line c l e) (faulty_line d m f) = refl
-  asked_status (faulty_line c l e) (order_too_large k gens a o m) = absurd (no_line k gens a e)
-  asked_status (faulty_line c l e) (report k gens r a o m i) = absurd (no_line k gens a e)
-  asked_status (order_too_large k gens a o l) (usage q) = absurd (q.no_command (command k gens a))
-  asked_status (order_too_large k gens a o l) (too_long d m) = absurd (too_many (length bytes) input_limit a.within m)
-  asked_status (order_too_large k gens a o l) (faulty_line d m e) = absurd (no_line k gens a e)
-  asked_status (order_too_large {n = m} k gens a o l) (order_too_large {n = n} j hens b p h) = ap (λ i. TooLarge (Order i)) (same_order k j gens hens m n a b o p)
-  asked_status (order_too_large {n = m} k gens a o l) (report {n = n} j hens r b p h i) = absurd (too_many m order_limit (subst (λ x. x ≤ order_limit) (sym (same_order k j gens hens m n a b o p)) h) l)
-  asked_status (report k gens r a o l i) (usage q) = absurd (q.no_command (command k gens a))
-  asked_status (report k gens r a o l i) (too_long d m) = absurd (too_many (length bytes) input_limit a.within m)
-  asked_status (report k gens r a o l i) (faulty_line d m e) = absurd (no_line k gens a e)
-  asked_status (report {n = m} k gens r a o l i) (order_too_large {n = n} j hens b p h) = absurd (too_many n order_limit (subst (λ x. x ≤ order_limit) (same_order k j gens hens m n a b o p) l) h)
-  asked_status (report k gens r a o l i) (report j hens r' b p h i') = refl
+  asked_status p q = stage_unique (stage words bytes p) (stage words bytes q)

@@ -48,8 +48,10 @@ zero_component (next (next (next i))) = elim i [ ]
 
 zero_within : IsWithinLimits wave_limit zero_wave
 unfolding zero_wave
-zero_within = within_of_parts zeros 1 (pos 0) (pos 0) (pos 0) 1 1 1 low low low (zero_component first) (zero_component (next first)) (zero_component (next (next first)))
-    wave_limit (omega arith) (omega arith) (omega arith) (record { positive = omega arith; lowest = λ d v each. Nat.dvd_antisymm v (Nat.one-dvd d) }) (omega arith)
+zero_within = within_of_parts zeros 1 (pos 0) (pos 0) (pos 0) 1 1 1 low low low (zero_component first) (zero_component (next first))
+    (zero_component (next (next first)))
+    wave_limit (omega arith) (omega arith) (omega arith) (record { positive = omega arith; lowest = λ d v each. Nat.dvd_antisymm v (Nat.one-dvd d) })
+    (omega arith)
   where
     low : IsLowest (pos 0) 1
     low = record { positive = omega arith; lowest = λ d v w. Nat.dvd_antisymm v (Nat.one-dvd d) }
@@ -73,7 +75,8 @@ begins_two v k h e = ([], (k, record { spelled = ap (λ t. codes "small" ∷ t �
 first_is_small : (f : List ℕ) (r : List (List ℕ)) → BeginsIn IsCommand (f ∷ r) → f ≡ codes "small"
 first_is_small f r t = let e : f ∷ (r ++ t.0) ≡ codes "small" ∷ wave_text t.1.0 ∷ [] = t.1.1.spelled in cc
 
-second_is_wave : (f v : List ℕ) (r : List (List ℕ)) → BeginsIn IsCommand (f ∷ v ∷ r) → (k : WaveVector) × IsWithinLimits wave_limit k × (v ≡ wave_text k)
+second_is_wave : (f v : List ℕ) (r : List (List ℕ)) → BeginsIn IsCommand (f ∷ v ∷ r) → (k : WaveVector) × IsWithinLimits wave_limit k ×
+    (v ≡ wave_text k)
 second_is_wave f v r t = let e : f ∷ v ∷ (r ++ t.0) ≡ codes "small" ∷ wave_text t.1.0 ∷ [] = t.1.1.spelled in (t.1.0, t.1.1.within, cc)
 
 no_third : (f v x : List ℕ) (r : List (List ℕ)) → BeginsIn IsCommand (f ∷ v ∷ x ∷ r) → ⊥
@@ -115,7 +118,8 @@ faulty_missing = record {
   is_next = refl;
 }
 
-pub faulty_second : (v : List ℕ) (r : List (List ℕ)) → ((k : WaveVector) → IsWithinLimits wave_limit k → v ≡ wave_text k → ⊥) → IsFaulty (codes "small" ∷ v ∷ r) 2
+pub faulty_second : (v : List ℕ) (r : List (List ℕ)) → ((k : WaveVector) → IsWithinLimits wave_limit k → v ≡ wave_text k → ⊥) → IsFaulty
+    (codes "small" ∷ v ∷ r) 2
 faulty_second v r n = record {
   no_command = λ h. no_wave (second_is_wave (codes "small") v r (begins_of_command (codes "small" ∷ v ∷ r) h));
   right = 1;
@@ -131,7 +135,8 @@ faulty_second v r n = record {
     longest (suc zero) le b = omega arith
     longest (suc (suc m)) le b = absurd (no_wave (second_is_wave (codes "small") v (take m r) b))
 
-pub faulty_third : (v x : List ℕ) (r : List (List ℕ)) (k : WaveVector) → IsWithinLimits wave_limit k → v ≡ wave_text k → IsFaulty (codes "small" ∷ v ∷ x ∷ r) 3
+pub faulty_third : (v x : List ℕ) (r : List (List ℕ)) (k : WaveVector) → IsWithinLimits wave_limit k → v ≡ wave_text k → IsFaulty
+    (codes "small" ∷ v ∷ x ∷ r) 3
 faulty_third v x r k h e = record {
   no_command = λ t. no_third (codes "small") v x r (begins_of_command (codes "small" ∷ v ∷ x ∷ r) t);
   right = 2;
@@ -160,9 +165,11 @@ pub second_at : (words : List (List ℕ)) (f v : List ℕ) (r t : List (List ℕ
     → ((k : WaveVector) → IsWithinLimits wave_limit k → v ≡ wave_text k → ⊥) → IsFaulty words 2
 second_at words f v r t e s m n = let is : words ≡ codes "small" ∷ v ∷ t = cc in subst (λ w. IsFaulty w 2) (sym is) (faulty_second v t n)
 
-pub third_at : (words : List (List ℕ)) (f v x : List ℕ) (r t u : List (List ℕ)) (k : WaveVector) → words ≡ f ∷ r → f ≡ codes "small" → r ≡ v ∷ t → t ≡ x ∷ u
+pub third_at : (words : List (List ℕ)) (f v x : List ℕ) (r t u : List (List ℕ)) (k : WaveVector) → words ≡ f ∷ r → f ≡ codes "small" → r ≡ v ∷ t
+    → t ≡ x ∷ u
     → IsWithinLimits wave_limit k → v ≡ wave_text k → IsFaulty words 3
-third_at words f v x r t u k e s m n h g = let is : words ≡ codes "small" ∷ v ∷ x ∷ u = cc in subst (λ w. IsFaulty w 3) (sym is) (faulty_third v x u k h g)
+third_at words f v x r t u k e s m n h g = let is : words ≡ codes "small" ∷ v ∷ x ∷ u = cc in subst (λ w. IsFaulty w 3) (sym is)
+    (faulty_third v x u k h g)
 
 pub small_at : (words : List (List ℕ)) (f v : List ℕ) (r t : List (List ℕ)) (k : WaveVector) → words ≡ f ∷ r → f ≡ codes "small" → r ≡ v ∷ t → t ≡ []
     → IsWithinLimits wave_limit k → v ≡ wave_text k → IsSmall words k

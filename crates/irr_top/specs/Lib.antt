@@ -1,5 +1,10 @@
 pub mod StatusCode
 pub mod Command
+pub mod Generators
+pub mod InputFaults
+pub mod CoGroup
+pub mod GroupOf
+pub mod OneOperationText
 pub mod RefusalText
 pub mod Asked
 pub mod Answered

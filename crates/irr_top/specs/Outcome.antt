@@ -10,8 +10,11 @@ use Rattle.irr_top.specs.Ended.{Serves}
 use Rattle.irr_top.specs.declared.status.Status.{Status}
 use Rattle.irr_top.specs.declared.status.Status.TheVariants.{Done, ReadFault, Memory}
 
-pub data Outcome (words : List (List ℕ)) (left leaves : Option (List ℕ)) (read_faults read_faulted faults faulted : ℕ) (held holds : Option (List ℕ)) (wrote writes : Option ℕ) : Status → Type 0 where
-  served : {t : Status} (bytes : List ℕ) → IsAllOf left bytes → Serves words bytes faults faulted held holds wrote writes t → (t ≡ Done → IsAtEnd leaves)
+pub data Outcome (words : List (List ℕ)) (left leaves : Option (List ℕ)) (read_faults read_faulted faults faulted : ℕ) (held holds : Option (List ℕ))
+    (wrote writes : Option ℕ) : Status → Type 0 where
+  served : {t : Status} (bytes : List ℕ) → IsAllOf left bytes → Serves words bytes faults faulted held holds wrote writes t
+      → (t ≡ Done → IsAtEnd leaves)
       → Outcome words left leaves read_faults read_faulted faults faulted held holds wrote writes t
-  read_fault : IsCommand words → Rose read_faults read_faulted → holds ≡ held → Outcome words left leaves read_faults read_faulted faults faulted held holds wrote writes ReadFault
+  read_fault : IsCommand words → Rose read_faults read_faulted → holds ≡ held
+      → Outcome words left leaves read_faults read_faulted faults faulted held holds wrote writes ReadFault
   no_memory : holds ≡ held → Outcome words left leaves read_faults read_faulted faults faulted held holds wrote writes Memory

@@ -8,7 +8,7 @@ use Rattle.irr_top.specs.declared.status.Status.TheVariants.{Done, Usage, BadInp
 use Rattle.irr_top.specs.declared.status.Reason.{Reason}
 use Rattle.irr_top.specs.declared.status.Reason.TheVariants.{Shape}
 use Rattle.irr_top.specs.declared.status.Kind.{Kind}
-use Rattle.irr_top.specs.declared.status.Kind.TheVariants.{Bytes, Order}
+use Rattle.irr_top.specs.declared.status.Kind.TheVariants.{Bytes, Rotations, Denominator, Centrings, Order, CoGroup}
 
 -- the reason, with a column, which counts from 1
 abbrev pub reason_text : Reason → List ℕ
@@ -16,7 +16,11 @@ reason_text (Shape place) = codes "shape " ++ decimal (suc place)
 
 abbrev pub kind_text : Kind → List ℕ
 kind_text Bytes = codes "bytes"
+kind_text Rotations = codes "rotations"
+kind_text Denominator = codes "denominator"
+kind_text Centrings = codes "centrings"
 kind_text (Order n) = codes "order " ++ decimal n
+kind_text (CoGroup h) = codes "co-group " ++ decimal h
 
 abbrev pub refusal_text : Status → List ℕ
 refusal_text Done = []

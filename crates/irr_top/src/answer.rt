@@ -1,24 +1,34 @@
 // The command `small`.
-ghost use Rattle.std.specs.Prelude.{◌≡◌, ◌+◌, ◌++◌, ◌≤◌, ℕ, List, [], IfOk, length, codes};
-ghost use Rattle.std.specs.Fmt.{decimal};
-ghost use Rattle.irr_space.specs.Operation.{WaveVector};
-ghost use Rattle.irr_space.specs.SpaceGroup.{Generated};
-ghost use Rattle.irr_space.specs.Reciprocal.{IsReduced, IsOrder};
-ghost use Rattle.irr_text.specs.WaveText.{wave_text};
+ghost use Rattle.std.specs.Prelude.{◌≡◌, ◌+◌, ◌≤◌, ℕ, List, IfOk, length};
+ghost use Rattle.std.specs.List.{All};
+ghost use Rattle.irr_text.specs.WaveText.{IsWithinLimits};
+ghost use Rattle.irr_text.specs.ReportText.{ReportContent, report_text};
+ghost use Rattle.irr_seitz.specs.OperationMeaning.{operation};
+ghost use Rattle.irr_seitz.specs.declared.op.Op.{Op};
+ghost use Rattle.irr_triplet.specs.Readable.{IsReadable};
 ghost use Rattle.irr_kvec.specs.WaveMeaning.{wave_vector};
-ghost use Rattle.irr_top.specs.Command.{IsSmall};
-ghost use Rattle.irr_top.specs.Asked.{input_limit};
-ghost use Rattle.irr_top.specs.Ended.{Serves};
+ghost use Rattle.irr_close.specs.StandsFor.{IsAccepted};
+ghost use Rattle.irr_top.specs.Command.{IsSmall, wave_limit};
+ghost use Rattle.irr_top.specs.GroupOf.{IsGroupOf};
+ghost use Rattle.irr_top.specs.Asked.{Asks, IsAsked, input_limit};
+ghost use Rattle.irr_top.specs.Ended.{Ended, Replies};
+ghost use Rattle.irr_top.specs.RefusalText.{refusal_text};
 ghost use Rattle.irr_top.specs.Outcome.{Outcome};
+ghost use Rattle.irr_top.specs.OneOperationText.{one_operation_text};
+ghost use Rattle.irr_top.specs.declared.status.Status.TheVariants.{Done, BadInput};
+ghost use Rattle.irr_top.specs.declared.status.Reason.TheVariants.{Shape};
 ghost use Rattle.irr_io.specs.Count.{CountsAtMost};
 
-use crate::reduced::reduced;
+use crate::input::{InputFault, generators};
 use crate::refusal::{finish, refuse};
+use crate::small_group::{co_group, order, reduced_wave};
 use crate::status::{Kind, Reason, Status};
+use irr_close::{CloseError, Group, close};
 use irr_cyc::ORDER_LIMIT;
 use irr_io::{InFault, Sink, Source, read_all};
 use irr_kvec::Wave;
 use irr_memory::Memory;
+use irr_seitz::{Op, Phase};
 use std::alloc::Global;
 
 // The most bytes of input.
@@ -31,6 +41,7 @@ pub(crate) fn small<I: Source, O: Sink>(
     source: &mut I,
     sink: &mut O,
 ) -> Status
+    requires limits { IsWithinLimits wave_limit (wave_vector wave.now) }
     ensures outcome { (words : List (List ℕ)) → IsSmall words (wave_vector wave.now) → Outcome words (I.left source.old) (I.left source.new) (I.faults source.old) (I.faults source.new)
         (O.faults sink.old) (O.faults sink.new) (O.held sink.old) (O.held sink.new) (O.writes sink.old) (O.writes sink.new) result }
     ensures reads { CountsAtMost (input_limit + 2) (I.reads source.old) (I.reads source.new) }
@@ -45,37 +56,74 @@ pub(crate) fn small<I: Source, O: Sink>(
 
 // Answers `small` at a wave vector, on an input of these bytes.
 fn answer_input<O: Sink>(alloc: Global, wave: &Wave, bytes: &[u8], sink: &mut O) -> Status
-    requires { length bytes.now ≤ input_limit }
-    ensures { (words : List (List ℕ)) → IsSmall words (wave_vector wave.now) → Serves words bytes.now (O.faults sink.old) (O.faults sink.new) (O.held sink.old) (O.held sink.new) (O.writes sink.old) (O.writes sink.new) result }
+    requires within { length bytes.now ≤ input_limit }
+    requires limits { IsWithinLimits wave_limit (wave_vector wave.now) }
+    ensures { (words : List (List ℕ)) → IsSmall words (wave_vector wave.now) → Replies words bytes.now (O.faults sink.old) (O.faults sink.new) (O.held sink.old) (O.held sink.new) (O.writes sink.old) (O.writes sink.new) result }
 {
-    if !bytes.is_empty() {
-        let reason = Reason::Shape(0);
-        return refuse(alloc, Status::BadInput { line: 1, reason }, sink);
+    match generators(alloc, bytes) {
+        Ok(gens) => answer_generators(alloc, wave, &gens, sink),
+        Err(InputFault::Line(line)) => refuse_line(alloc, line, sink),
+        Err(InputFault::Memory) => Status::Memory,
     }
-    report(alloc, &reduced(wave), sink)
 }
 
-// Writes the report at a reduced wave vector of the group of no generators, unless its order is too large.
-fn report<O: Sink>(alloc: Global, wave: &Wave, sink: &mut O) -> Status
-    ensures { (words : List (List ℕ)) (k : WaveVector) → IsSmall words k → IsReduced (Generated []) k (wave_vector wave.now) → IsOrder (Generated []) k wave.now.den
-        → Serves words [] (O.faults sink.old) (O.faults sink.new) (O.held sink.old) (O.held sink.new) (O.writes sink.old) (O.writes sink.new) result }
+// Answers `small` at a wave vector, with these generators.
+fn answer_generators<O: Sink>(alloc: Global, wave: &Wave, gens: &[Op], sink: &mut O) -> Status
+    requires readable { All (λ g. IsReadable (operation g)) gens.now }
+    requires limits { IsWithinLimits wave_limit (wave_vector wave.now) }
+    ensures { (words : List (List ℕ)) (bytes : List ℕ) → IsAsked words bytes (wave_vector wave.now) gens.now
+        → Replies words bytes (O.faults sink.old) (O.faults sink.new) (O.held sink.old) (O.held sink.new) (O.writes sink.old) (O.writes sink.new) result }
 {
-    if wave.den > ORDER_LIMIT {
-        let order = u64::from(wave.den);
+    match close(alloc, gens, Phase::Minus) {
+        Ok(group) => answer_group(alloc, wave, &group, sink),
+        Err(CloseError::Rotations) => refuse(alloc, Status::TooLarge(Kind::Rotations), sink),
+        Err(CloseError::Denominator) => refuse(alloc, Status::TooLarge(Kind::Denominator), sink),
+        Err(CloseError::Centrings) => refuse(alloc, Status::TooLarge(Kind::Centrings), sink),
+        Err(CloseError::Memory) => Status::Memory,
+    }
+}
+
+// Answers `small` at a wave vector, with this group.
+fn answer_group<O: Sink>(alloc: Global, wave: &Wave, group: &Group, sink: &mut O) -> Status
+    requires group { (gens : List Op) × IsGroupOf group.now gens }
+    requires limits { IsWithinLimits wave_limit (wave_vector wave.now) }
+    ensures { (words : List (List ℕ)) (bytes : List ℕ) (gens : List Op) → IsAsked words bytes (wave_vector wave.now) gens → IsAccepted gens → IsGroupOf group.now gens
+        → Replies words bytes (O.faults sink.old) (O.faults sink.new) (O.held sink.old) (O.held sink.new) (O.writes sink.old) (O.writes sink.new) result }
+{
+    let order = order(group, wave);
+    if order > u64::from(ORDER_LIMIT) {
         return refuse(alloc, Status::TooLarge(Kind::Order(order)), sink);
     }
-    match report_text(alloc, wave) {
+    let count = co_group(group, wave);
+    if count > 1 {
+        return refuse(alloc, Status::TooLarge(Kind::CoGroup(count)), sink);
+    }
+    report(alloc, &reduced_wave(group, wave), order, sink)
+}
+
+// Refuses a faulty line of the input.
+fn refuse_line<O: Sink>(alloc: Global, line: u64, sink: &mut O) -> Status
+    ensures { Ended (BadInput line (Shape 0)) (refusal_text (BadInput line (Shape 0))) (O.faults sink.old) (O.faults sink.new) (O.held sink.old) (O.held sink.new) (O.writes sink.old) (O.writes sink.new) result }
+{
+    let reason = Reason::Shape(0);
+    refuse(alloc, Status::BadInput { line, reason }, sink)
+}
+
+// Writes the report of one operation and one representation, at a reduced wave vector of this order.
+fn report<O: Sink>(alloc: Global, wave: &Wave, order: u64, sink: &mut O) -> Status
+    ensures { (words : List (List ℕ)) (bytes : List ℕ) (r : ReportContent) → Asks words bytes Done (report_text r) → report_text r ≡ one_operation_text (wave_vector wave.now) order
+        → Replies words bytes (O.faults sink.old) (O.faults sink.new) (O.held sink.old) (O.held sink.new) (O.writes sink.old) (O.writes sink.new) result }
+{
+    match text_of_one_operation(alloc, wave, order) {
         Ok(text) => finish(Status::Done, &text, sink),
         Err(Memory) => Status::Memory,
     }
 }
 
-// The report of one operation and one representation, of the order that is the denominator.
-fn report_text(alloc: Global, wave: &Wave) -> Result<Vec<u8>, Memory>
-    ensures { IfOk result (λ text. text.items ≡ codes "report 1\nwave " ++ (wave_text (wave_vector wave.now)
-        ++ (codes "\norder " ++ (decimal wave.now.den ++ codes "\nops 1\nop 1 x,y,z\nreps 1\nrep S1 dim 1\nchar 1\nmat 1 1\nend\n")))) }
+// The text of the report of one operation and one representation.
+fn text_of_one_operation(alloc: Global, wave: &Wave, order: u64) -> Result<Vec<u8>, Memory>
+    ensures { IfOk result (λ text. text.items ≡ one_operation_text (wave_vector wave.now) order) }
 {
-    let order = wave.den;
     let text = format!(in alloc;
         "report 1\nwave {wave}\norder {order}\nops 1\nop 1 x,y,z\nreps 1\nrep S1 dim 1\nchar 1\nmat 1 1\nend\n"
     )?;

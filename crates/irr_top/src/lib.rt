@@ -2,13 +2,16 @@
 #![tactic(auto)]
 
 mod answer;
-mod reduced;
+mod input;
+mod laws;
 mod refusal;
+mod small_group;
 mod status;
 mod top;
 mod wave;
 mod words;
 
+pub use laws::one_status_is_asked_for;
 pub use refusal::text_refusal;
 pub use status::{Kind, Reason, Status};
 pub use top::run;

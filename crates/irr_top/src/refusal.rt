@@ -23,11 +23,24 @@ fn line(alloc: Global, status: &Status) -> Result<String, AllocError>
     match status {
         Status::Usage(n) => format!(in alloc; "usage {n}\n"),
         Status::BadInput { line, reason } => bad_line(alloc, *line, *reason),
-        Status::TooLarge(Kind::Bytes) => format!(in alloc; "too large: bytes\n"),
-        Status::TooLarge(Kind::Order(n)) => format!(in alloc; "too large: order {n}\n"),
+        Status::TooLarge(kind) => large_line(alloc, *kind),
         Status::Done | Status::ReadFault | Status::WriteFault | Status::Memory => {
             String::from_str(alloc, "")
         }
+    }
+}
+
+// The line of a limit that was passed.
+fn large_line(alloc: Global, kind: Kind) -> Result<String, AllocError>
+    ensures { IfOk result (λ text. string_bytes text ≡ refusal_text (Status.TooLarge kind)) }
+{
+    match kind {
+        Kind::Bytes => format!(in alloc; "too large: bytes\n"),
+        Kind::Rotations => format!(in alloc; "too large: rotations\n"),
+        Kind::Denominator => format!(in alloc; "too large: denominator\n"),
+        Kind::Centrings => format!(in alloc; "too large: centrings\n"),
+        Kind::Order(n) => format!(in alloc; "too large: order {n}\n"),
+        Kind::CoGroup(h) => format!(in alloc; "too large: co-group {h}\n"),
     }
 }
 

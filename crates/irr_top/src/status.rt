@@ -6,8 +6,16 @@ ghost use Rattle.std.specs.Prelude.{◌≡◌};
 pub enum Kind {
     /// More than 4,194,304 bytes of input.
     Bytes,
+    /// More than 48 rotations, or one with an entry above 9 in absolute value.
+    Rotations,
+    /// The least common denominator of the generators' vectors, which is above 100,000.
+    Denominator,
+    /// More than 32 translations modulo the whole ones.
+    Centrings,
     /// The order of the numbers, which is above 12,000.
     Order(u64),
+    /// The number of elements of the little co-group, which is above 1.
+    CoGroup(u32),
 }
 
 /// Why a line is faulty.

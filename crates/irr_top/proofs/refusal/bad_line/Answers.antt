@@ -17,10 +17,13 @@ regroup : (p a s y n : List ℕ) → p ++ (a ++ (s ++ (y ++ n))) ≡ p ++ a ++ s
 regroup p a s y n = simp append_assoc
 
 -- the pieces in one grouping and in the other
-grouped : (a b : List ℕ) → codes "bad input line " ++ (a ++ (codes ": shape " ++ (b ++ 10 ∷ []))) ≡ codes "bad input line " ++ a ++ codes ": " ++ (codes "shape " ++ b) ++ 10 ∷ []
+grouped : (a b : List ℕ) → codes "bad input line " ++ (a ++ (codes ": shape " ++ (b ++ 10 ∷ []))) ≡ codes "bad input line " ++ a ++ codes ": " ++
+    (codes "shape " ++ b) ++ 10 ∷ []
 grouped a b = regroup (codes "bad input line ") a (codes ": ") (codes "shape " ++ b) (10 ∷ [])
 
 pub returns : goal.returns
 returns c =
     let X : List ℕ → Type 0 = λ text. IfOk c.format.result (λ s. string_bytes s ≡ text) in
-    subst X (grouped (decimal c.args.line) (decimal (c.from.result + 1)) ∙ ap (λ text. codes "bad input line " ++ decimal c.args.line ++ codes ": " ++ text ++ 10 ∷ []) (sym (text_of_reason c.args.reason c.from.result c.from.ensures))) c.format.ensures.ok
+    subst X (grouped (decimal c.args.line) (decimal (c.from.result + 1)) ∙ ap
+    (λ text. codes "bad input line " ++ decimal c.args.line ++ codes ": " ++ text ++ 10 ∷ [])
+    (sym (text_of_reason c.args.reason c.from.result c.from.ensures))) c.format.ensures.ok

@@ -1,0 +1,72 @@
+-- Generators that one text spells.
+--   AreSame gens hens       they stand for the same operations, one by one
+--   same_generators         lines spell the same operations at most
+--   operations_same         so the groups are one
+--   refusal_along, accepted_along     and pass the same limits
+use Rattle.std.proofs.Common.{◌≡◌, refl, sym, ◌∙◌, ap, ap₂, subst, ℕ, ◌≤◌, List, [], ◌∷◌, arith}
+use Rattle.std.specs.List.{All}
+use Rattle.std.specs.Int.{◌∣◌}
+use Rattle.std.proofs.lemmas.List.Elements.{All-cons, All-head, All-tail}
+use Rattle.irr_space.specs.Operation.{Operation, Vector}
+use Rattle.irr_rat.specs.VectorMeaning.{vector_of}
+use Rattle.irr_rat.proofs.CommonDenominators.{lowest_below}
+use Rattle.irr_seitz.specs.OperationMeaning.{operation}
+use Rattle.irr_seitz.specs.declared.op.Op.{Op}
+use Rattle.irr_triplet.proofs.UniqueTriplets.{triplet_unique}
+use Rattle.irr_close.specs.Limits.{operations, HasFewRotations, HasSmallDenominator, HasFewCentrings}
+use Rattle.irr_close.specs.StandsFor.{IsRefusal, IsAccepted}
+use Rattle.irr_close.specs.declared.CloseError.{CloseError}
+use Rattle.irr_close.specs.declared.CloseError.TheVariants.{Rotations, Denominator, Centrings, Memory}
+use Rattle.irr_top.specs.Generators.{AreGenerators}
+use Rattle.irr_top.specs.Generators.AreGenerators.{none, more}
+
+pub data AreSame : List Op → List Op → Type 0 where
+  nothing : AreSame [] []
+  pair : {g h : Op} {gens hens : List Op} → operation g ≡ operation h → AreSame gens hens → AreSame (g ∷ gens) (h ∷ hens)
+
+pub same_generators : {lines : List (List ℕ)} {gens hens : List Op} → AreGenerators lines gens → AreGenerators lines hens → AreSame gens hens
+same_generators none none = nothing
+same_generators (more {g = g} h r) (more {g = k} i s) = pair (triplet_unique (operation g) (operation k) h.readable i.readable
+    (sym h.printed ∙ i.printed)) (same_generators r s)
+
+flipped : {gens hens : List Op} → AreSame gens hens → AreSame hens gens
+flipped nothing = nothing
+flipped (pair e s) = pair (sym e) (flipped s)
+
+pub operations_same : {gens hens : List Op} → AreSame gens hens → operations gens ≡ operations hens
+operations_same nothing = refl
+operations_same (pair e s) = ap₂ (λ x xs. x ∷ xs) e (operations_same s)
+
+denominator_below : (g h : Op) → operation g ≡ operation h → g.den ≤ h.den
+denominator_below g h e =
+    let v : vector_of g.num g.den ≡ vector_of h.num h.den = ap (λ (o : Operation). o.vector) e in
+    lowest_below g.num h.num g.den h.den h.den g.lowest h.lowest.positive v (omega arith)
+
+denominator_same : (g h : Op) → operation g ≡ operation h → g.den ≡ h.den
+denominator_same g h e = let a = denominator_below g h e in let b = denominator_below h g (sym e) in omega arith
+
+multiples_along : (m : ℕ) {gens hens : List Op} → AreSame gens hens → All (λ g. g.den ∣ m) gens → All (λ g. g.den ∣ m) hens
+multiples_along m nothing a = λ k d lt. absurd (omega arith)
+multiples_along m (pair {g = g} {h = h} {gens = gens} {hens = hens} e s) a = All-cons (λ x. x.den ∣ m) h hens
+    (subst (λ n. n ∣ m) (denominator_same g h e) (All-head (λ x. x.den ∣ m) g gens a)) (multiples_along m s (All-tail (λ x. x.den ∣ m) g gens a))
+
+small_along : {gens hens : List Op} → AreSame gens hens → HasSmallDenominator gens → HasSmallDenominator hens
+small_along s h = record { common = h.common; positive = h.positive; small = h.small; multiple = multiples_along h.common s h.multiple }
+
+pub refusal_along : {gens hens : List Op} (e : CloseError) → AreSame gens hens → IsRefusal gens e → IsRefusal hens e
+refusal_along Rotations s r = subst (λ l. ¬ (HasFewRotations l)) (operations_same s) r
+refusal_along Denominator s r = (subst HasFewRotations (operations_same s) r.0, λ h. r.1 (small_along (flipped s) h))
+refusal_along Centrings s r = (
+  subst HasFewRotations (operations_same s) r.0,
+  small_along s r.1,
+  subst (λ l. ¬ (HasFewCentrings l))
+      (operations_same s) r.2,
+)
+refusal_along Memory s r = r
+
+pub accepted_along : {gens hens : List Op} → AreSame gens hens → IsAccepted gens → IsAccepted hens
+accepted_along s a = record {
+  rotations = subst HasFewRotations (operations_same s) a.rotations;
+  denominator = small_along s a.denominator;
+  centrings = subst HasFewCentrings (operations_same s) a.centrings;
+}
