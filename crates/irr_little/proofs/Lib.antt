@@ -1,2 +1,5 @@
 pub mod Wrapping
 pub mod Phases
+pub mod Listing
+pub mod Spaces
+pub mod Shifts

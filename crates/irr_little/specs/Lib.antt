@@ -1,0 +1,2 @@
+pub mod SpaceGroup
+pub mod Places

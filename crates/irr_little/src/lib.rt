@@ -2,5 +2,7 @@
 #![tactic(auto)]
 
 mod phase;
+mod places;
 
 pub use phase::theta;
+pub use places::little_places;
