@@ -4,4 +4,5 @@ pub mod Spaces
 pub mod Wrapping
 pub mod Shifts
 pub mod Tables
+pub mod Determinants
 pub mod Stars

@@ -143,8 +143,12 @@ module _ (group : Group) (space : IsSpaceGroup group) (k : WaveVector) where
     carries = so.carries;
     is_first = so.is_first;
     all = λ j l. elim (same_or_not n j) [
-      | inl e ↦ (t.0, t.1, λ a f. subst (λ m. Carries (stands_for group) (operation (get_or group.ops.items m f)) k (wave_vector (get_or arms t.0 a).wave)) e
-          (carried_to (stands_for group) (operation (get_or group.ops.items n f)) k w (wave_vector (get_or arms t.0 a).wave) (carried f) (t.2 a)))
+      | inl e ↦ (
+        t.0,
+        t.1,
+        λ a f. subst (λ m. Carries (stands_for group) (operation (get_or group.ops.items m f)) k (wave_vector (get_or arms t.0 a).wave)) e
+            (carried_to (stands_for group) (operation (get_or group.ops.items n f)) k w (wave_vector (get_or arms t.0 a).wave) (carried f) (t.2 a)),
+      )
       | inr f ↦ so.all j (omega (arith, f))
     ];
   }

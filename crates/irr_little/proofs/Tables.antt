@@ -136,9 +136,11 @@ module _ (group : Group) (space : IsSpaceGroup group) (k : WaveVector) (xs : Lis
       where
         at : Contains xs (to_nat t.0) → (i : Fin h) × (listed_operations group h xs d i ≡ g)
         at c =
-            let l : c.0 < h = (let b : c.0 < length xs = c.1 in omega arith) in
-            (from_nat h c.0 l, ap (λ n. operation (get_or group.ops.items (slice_index xs n) d)) (to_nat-from_nat h c.0 l)
-            ∙ ap (λ n. operation (get_or group.ops.items n d)) (get_or_default xs c.0 0 (to_nat t.0) c.1 ∙ c.2) ∙ t.1)
+            let l : c.0 < h = (let b : c.0 < length xs = c.1 in omega arith) in (
+              from_nat h c.0 l,
+              ap (λ n. operation (get_or group.ops.items (slice_index xs n) d)) (to_nat-from_nat h c.0 l)
+                  ∙ ap (λ n. operation (get_or group.ops.items n d)) (get_or_default xs c.0 0 (to_nat t.0) c.1 ∙ c.2) ∙ t.1,
+            )
 
     pub little_numbering : IsNumbering G (IsInLittleGroup G k) (listed_operations group h xs d)
     little_numbering = record {

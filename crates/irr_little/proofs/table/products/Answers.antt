@@ -32,8 +32,11 @@ loop-j-preserved c =
           (filled-push (length places) (IsProductEntry c.args.group.now places) c.loop-j.products.items c.loop-i.i-index c.loop-j.j-index x
           c.loop-j.invariant.rows c.loop-j.invariant.count c.loop-j-test.true (
             c.position.ensures.within,
-            (vector c.product-shifted.result.shift, subst (λ n. IsProduct c.args.group.now (slice_index places c.loop-i.i-index) (slice_index places c.loop-j.j-index) n (vector c.product-shifted.result.shift))
-                (sym c.position.ensures.value) c.product-shifted.ensures.product),
+            (
+              vector c.product-shifted.result.shift,
+              subst (λ n. IsProduct c.args.group.now (slice_index places c.loop-i.i-index) (slice_index places c.loop-j.j-index) n (vector c.product-shifted.result.shift))
+                  (sym c.position.ensures.value) c.product-shifted.ensures.product,
+            ),
           ));
     }
 

@@ -37,17 +37,17 @@ new-requires-clause-places_within c = subst (λ n. n ≤ 48) (sym c.args.places.
 
 pub new-requires-clause-group : goal.new-requires-clause-group
 new-requires-clause-group c = lists_group c.args.group.now c.requires.space (wave_vector c.args.k.now) c.args.places.items c.requires.places (vec_len c.args.places) c.args.places.ok.0 c.args.order c.requires.order
-    c.in_ok-products.products.items c.in_ok-exponents.exponents.items (products_in c.args.group.now c.deref.result.now c.args.places.items c.in_ok-products.products.items c.deref.ensures.value c.in_ok-products.ensures.entries) 
+    c.in_ok-products.products.items c.in_ok-exponents.exponents.items (products_in c.args.group.now c.deref.result.now c.args.places.items c.in_ok-products.products.items c.deref.ensures.value c.in_ok-products.ensures.entries)
     (exponents_in c.args.group.now (wave_vector c.args.k.now) c.args.order c.deref-2.result.now c.args.places.items c.in_ok-exponents.exponents.items c.deref-2.ensures.value c.in_ok-exponents.ensures.entries)
 
 pub new-requires-clause-inverses : goal.new-requires-clause-inverses
 new-requires-clause-inverses c = lists_inverses c.args.group.now c.requires.space (wave_vector c.args.k.now) c.args.places.items c.requires.places (vec_len c.args.places) c.args.places.ok.0 c.args.order c.requires.order
-    c.in_ok-products.products.items c.in_ok-exponents.exponents.items (products_in c.args.group.now c.deref.result.now c.args.places.items c.in_ok-products.products.items c.deref.ensures.value c.in_ok-products.ensures.entries) 
+    c.in_ok-products.products.items c.in_ok-exponents.exponents.items (products_in c.args.group.now c.deref.result.now c.args.places.items c.in_ok-products.products.items c.deref.ensures.value c.in_ok-products.ensures.entries)
     (exponents_in c.args.group.now (wave_vector c.args.k.now) c.args.order c.deref-2.result.now c.args.places.items c.in_ok-exponents.exponents.items c.deref-2.ensures.value c.in_ok-exponents.ensures.entries)
 
 pub new-requires-clause-factors : goal.new-requires-clause-factors
 new-requires-clause-factors c = lists_factors c.args.group.now c.requires.space (wave_vector c.args.k.now) c.args.places.items c.requires.places (vec_len c.args.places) c.args.places.ok.0 c.args.order c.requires.order
-    c.in_ok-products.products.items c.in_ok-exponents.exponents.items (products_in c.args.group.now c.deref.result.now c.args.places.items c.in_ok-products.products.items c.deref.ensures.value c.in_ok-products.ensures.entries) 
+    c.in_ok-products.products.items c.in_ok-exponents.exponents.items (products_in c.args.group.now c.deref.result.now c.args.places.items c.in_ok-products.products.items c.deref.ensures.value c.in_ok-products.ensures.entries)
     (exponents_in c.args.group.now (wave_vector c.args.k.now) c.args.order c.deref-2.result.now c.args.places.items c.in_ok-exponents.exponents.items c.deref-2.ensures.value c.in_ok-exponents.ensures.entries)
 
 pub returns : goal.returns
