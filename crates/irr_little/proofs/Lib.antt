@@ -1,0 +1,8 @@
+pub mod Phases
+pub mod Listing
+pub mod Spaces
+pub mod Wrapping
+pub mod Shifts
+pub mod Tables
+pub mod Determinants
+pub mod Stars

@@ -1,0 +1,18 @@
+-- The rows so far are those of the phases.
+use Rattle.std.proofs.Common.{◌≡◌, ◌+◌, ◌*◌, length}
+use Rattle.irr_rep.proofs.Rows.{FilledRows}
+use Rattle.irr_kvec.specs.WaveMeaning.{wave_vector}
+use Rattle.irr_little.specs.Entries.{IsPhaseEntry}
+use Rattle.irr_little.proofs.table.exponents.Given as goal
+
+abbrev pub invariant-loop-j : goal.invariant-loop-j
+invariant-loop-j l = record {
+  count : length l.exponents.items ≡ l.i-index * length l.places + l.j-index;
+  rows : FilledRows (length l.places) (IsPhaseEntry l.group (wave_vector l.k) l.order l.places) l.exponents.items;
+}
+
+abbrev pub invariant-loop-i : goal.invariant-loop-i
+invariant-loop-i l = record {
+  count : length l.exponents.items ≡ l.i-index * length l.places;
+  rows : FilledRows (length l.places) (IsPhaseEntry l.group (wave_vector l.k) l.order l.places) l.exponents.items;
+}

@@ -1,0 +1,6 @@
+pub mod SpaceGroup
+pub mod Places
+pub mod Products
+pub mod Entries
+pub mod Table
+pub mod Arms
