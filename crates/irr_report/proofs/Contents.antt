@@ -46,8 +46,10 @@ module _ {S : Type 0} (G : Ghosts S) where
   values-pieces : (n h : ℕ) (xs : List S) → length xs ≡ h → All (λ x. G.order_of x ≡ n) xs
       → pieces h (λ i. next_word (number_text n (number_at G.value n xs (to_nat i)))) ≡ values_text G.order_of G.value xs
   unfolding number_at values_text
-  values-pieces n h xs e orders = pieces-list (value_word G.order_of G.value) xs h (λ k. next_word (number_text n (get_or (map (G.value n) xs) k (numbers n).zero))) (sym e)
-      (λ k x lt is. ap (λ v. next_word (number_text n v)) (item (G.value n) xs k x (numbers n).zero lt is) ∙ value_of n x (each (λ y. G.order_of y ≡ n) xs k x lt is orders))
+  values-pieces n h xs e orders = pieces-list (value_word G.order_of G.value) xs h
+      (λ k. next_word (number_text n (get_or (map (G.value n) xs) k (numbers n).zero))) (sym e)
+      (λ k x lt is. ap (λ v. next_word (number_text n v)) (item (G.value n) xs k x (numbers n).zero lt is)
+      ∙ value_of n x (each (λ y. G.order_of y ≡ n) xs k x lt is orders))
 
   entries-pieces : (n d : ℕ) (xs : List S) → length xs ≡ d * d → All (λ x. G.order_of x ≡ n) xs
       → pieces d (λ a. pieces d (λ b. next_word (number_text n ((matrix_of G.value n d d xs).at a b)))) ≡ values_text G.order_of G.value xs
@@ -57,7 +59,8 @@ module _ {S : Type 0} (G : Ghosts S) where
       ∙ pieces-rows d d (λ k. next_word (number_text n (get_or (map (G.value n) xs) k (numbers n).zero)))
       ∙ ap (λ m. pieces_below m (λ k. next_word (number_text n (get_or (map (G.value n) xs) k (numbers n).zero)))) (sym e)
       ∙ pieces_below-list (value_word G.order_of G.value) xs (λ k. next_word (number_text n (get_or (map (G.value n) xs) k (numbers n).zero)))
-      (λ k x lt is. ap (λ v. next_word (number_text n v)) (item (G.value n) xs k x (numbers n).zero lt is) ∙ value_of n x (each (λ y. G.order_of y ≡ n) xs k x lt is orders))
+      (λ k x lt is. ap (λ v. next_word (number_text n v)) (item (G.value n) xs k x (numbers n).zero lt is)
+      ∙ value_of n x (each (λ y. G.order_of y ≡ n) xs k x lt is orders))
 
 -- the lines of representations and of reports
 module _ {S : Type 0} {G : Ghosts S} where
@@ -67,9 +70,11 @@ module _ {S : Type 0} {G : Ghosts S} where
     matrix_line_of i = line (codes "mat" ++ next_word (decimal (suc (to_nat i)))
         ++ pieces d (λ a. pieces d (λ b. next_word (number_text n ((matrix_at n d mats i).at a b)))))
 
-    matrix-line : (i : Fin h) (m : Mat S G) → to_nat i < length mats → m ≡ get_or mats (to_nat i) m → matrix_line_of i ≡ matrix_text {G = G} (suc (to_nat i)) m
+    matrix-line : (i : Fin h) (m : Mat S G) → to_nat i < length mats → m ≡ get_or mats (to_nat i) m
+        → matrix_line_of i ≡ matrix_text {G = G} (suc (to_nat i)) m
     matrix-line i m lt is =
-        ap (λ (x : Matrix (numbers n) d d). line (codes "mat" ++ next_word (decimal (suc (to_nat i))) ++ pieces d (λ a. pieces d (λ b. next_word (number_text n (x.at a b))))))
+        ap (λ (x : Matrix (numbers n) d d). line (codes "mat" ++ next_word (decimal (suc (to_nat i)))
+        ++ pieces d (λ a. pieces d (λ b. next_word (number_text n (x.at a b))))))
         (matrix_at-item n d mats (to_nat i) m lt is i refl)
         ∙ ap (λ u. line (codes "mat" ++ next_word (decimal (suc (to_nat i))) ++ u)) (entries-pieces G n d m.entries.items filled orders)
       where
@@ -87,7 +92,8 @@ module _ {S : Type 0} {G : Ghosts S} where
         → representation_lines (content_of r) m ≡ representation_text {G = G} (suc (to_nat m)) t
     unfolding representation_lines character_line matrix_line
     representation-lines m t lt is =
-        ap (λ d. body d (get_or (characters r) (to_nat m) []) (get_or (matrices r) (to_nat m) [])) (item (λ (u : RepText S G). u.family.dim) r.reps.items (to_nat m) t 0 lt is)
+        ap (λ d. body d (get_or (characters r) (to_nat m) []) (get_or (matrices r) (to_nat m) []))
+        (item (λ (u : RepText S G). u.family.dim) r.reps.items (to_nat m) t 0 lt is)
         ∙ ap₂ (λ xs mats. body t.family.dim xs mats) (item (λ (u : RepText S G). u.chars.items) r.reps.items (to_nat m) t [] lt is)
         (item (λ (u : RepText S G). u.family.mats.items) r.reps.items (to_nat m) t [] lt is)
         ∙ ap₂ (λ cs ms. first_line t.family.dim ++ line (codes "char" ++ cs) ++ ms)
@@ -101,7 +107,8 @@ module _ {S : Type 0} {G : Ghosts S} where
         first_line d = line (codes "rep" ++ next_word (83 ∷ decimal (suc (to_nat m))) ++ next_word (codes "dim") ++ next_word (decimal d))
 
         body : ℕ → List S → List (Mat S G) → List ℕ
-        body d xs mats = first_line d ++ line (codes "char" ++ pieces (length r.ops.items) (λ i. next_word (number_text r.order (number_at G.value r.order xs (to_nat i)))))
+        body d xs mats = first_line d ++ line (codes "char" ++ pieces (length r.ops.items)
+            (λ i. next_word (number_text r.order (number_at G.value r.order xs (to_nat i)))))
             ++ pieces (length r.ops.items) (λ i. line (codes "mat" ++ next_word (decimal (suc (to_nat i)))
             ++ pieces d (λ a. pieces d (λ b. next_word (number_text r.order ((matrix_at r.order d mats i).at a b))))))
 
@@ -116,4 +123,5 @@ module _ {S : Type 0} {G : Ghosts S} where
     printed-content = sym (ap₂ (λ os ms. head_text r.wave r.order (length r.ops.items) ++ os
         ++ line (codes "reps" ++ next_word (decimal (length r.reps.items))) ++ ms ++ line (codes "end"))
         (pieces-numbered operation_text r.ops.items (length r.ops.items) refl (operation_line (content_of r)) operation-line)
-        (pieces-numbered (representation_text {G = G}) r.reps.items (length r.reps.items) refl (representation_lines (content_of r)) representation-lines))
+        (pieces-numbered (representation_text {G = G}) r.reps.items (length r.reps.items) refl (representation_lines (content_of r))
+        representation-lines))

@@ -22,7 +22,8 @@ module _ {S : Type 0} (order : S → ℕ) (value : (n : ℕ) → S → Number n)
   unfolding values_text
   values_none = sym (append-nil before)
 
-  pub values_step : (text : List ℕ) (xs : List S) (i : ℕ) (x : S) → i < length xs → x ≡ get_or xs i x → text ≡ before ++ values_text order value (take i xs)
+  pub values_step : (text : List ℕ) (xs : List S) (i : ℕ) (x : S) → i < length xs → x ≡ get_or xs i x
+      → text ≡ before ++ values_text order value (take i xs)
       → text ++ value_word order value x ≡ before ++ values_text order value (take (i + 1) xs)
   unfolding values_text
   values_step text xs i x lt is t = flat_map_step (value_word order value) before text xs i x lt is t
@@ -35,7 +36,8 @@ module _ {S : Type 0} (order : S → ℕ) (value : (n : ℕ) → S → Number n)
   unfolding values_text
   values_rows text xs i c t = rows_step (value_word order value) before text xs i c t
 
-  pub values_rows_all : (text : List ℕ) (xs : List S) (i r c : ℕ) → length xs ≡ r * c → r ≤ i → text ≡ before ++ values_text order value (take (i * c) xs)
+  pub values_rows_all : (text : List ℕ) (xs : List S) (i r c : ℕ) → length xs ≡ r * c → r ≤ i
+      → text ≡ before ++ values_text order value (take (i * c) xs)
       → text ≡ before ++ values_text order value xs
   values_rows_all text xs i r c e le t = t ∙ ap (λ ys. before ++ values_text order value ys) (take_all (i * c) xs short)
     where
@@ -51,7 +53,8 @@ module _ {S : Type 0} (order : S → ℕ) (value : (n : ℕ) → S → Number n)
 pub matrix-parts : (before k t : List ℕ) → ((before ++ (codes "mat " ++ k)) ++ t) ++ 10 ∷ [] ≡ before ++ line (codes "mat" ++ next_word k ++ t)
 matrix-parts before k t = simp append_assoc
 
-head_regroup : (r w o p l a n h : List ℕ) → r ++ (w ++ (a ++ (l ++ (o ++ (n ++ (l ++ (p ++ (h ++ l)))))))) ≡ ((r ++ ((w ++ a) ++ l)) ++ ((o ++ n) ++ l)) ++ ((p ++ h) ++ l)
+head_regroup : (r w o p l a n h : List ℕ) → r ++ (w ++ (a ++ (l ++ (o ++ (n ++ (l ++ (p ++ (h ++ l))))))))
+    ≡ ((r ++ ((w ++ a) ++ l)) ++ ((o ++ n) ++ l)) ++ ((p ++ h) ++ l)
 head_regroup r w o p l a n h = simp append_assoc
 
 pub head-parts : (w n h : List ℕ) → codes "report 1\nwave " ++ (w ++ (codes "\norder " ++ (n ++ (codes "\nops " ++ (h ++ codes "\n")))))
@@ -64,9 +67,12 @@ report_regroup a b r c l d e = simp append_assoc
 module _ {S : Type 0} {G : Ghosts S} (r : Report S G) (head operations count representations text : List ℕ) where
   pub report-parts : head ≡ head_text r.wave r.order (length r.ops.items) → operations ≡ head ++ numbered operation_text 1 r.ops.items
       → count ≡ operations ++ (codes "reps " ++ (decimal (length r.reps.items) ++ codes "\n"))
-      → representations ≡ count ++ numbered (representation_text {G = G}) 1 r.reps.items → text ≡ representations ++ codes "end\n" → text ≡ printed_report r
+      → representations ≡ count ++ numbered (representation_text {G = G}) 1 r.reps.items → text ≡ representations ++ codes "end\n"
+      → text ≡ printed_report r
   unfolding printed_report
   report-parts h o c m e = e ∙ ap (λ x. x ++ codes "end\n") (m ∙ ap (λ x. x ++ numbered (representation_text {G = G}) 1 r.reps.items)
-      (c ∙ ap (λ x. x ++ (codes "reps " ++ (decimal (length r.reps.items) ++ codes "\n"))) (o ∙ ap (λ x. x ++ numbered operation_text 1 r.ops.items) h)))
-      ∙ report_regroup (head_text r.wave r.order (length r.ops.items)) (numbered operation_text 1 r.ops.items) (codes "reps ") (decimal (length r.reps.items)) (10 ∷ [])
+      (c ∙ ap (λ x. x ++ (codes "reps " ++ (decimal (length r.reps.items) ++ codes "\n"))) (o
+      ∙ ap (λ x. x ++ numbered operation_text 1 r.ops.items) h)))
+      ∙ report_regroup (head_text r.wave r.order (length r.ops.items)) (numbered operation_text 1 r.ops.items) (codes "reps ")
+      (decimal (length r.reps.items)) (10 ∷ [])
       (numbered (representation_text {G = G}) 1 r.reps.items) (codes "end\n")

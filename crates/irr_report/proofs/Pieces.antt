@@ -91,7 +91,8 @@ pieces-list g xs n f e same = pieces-below n f ∙ ap (λ m. pieces_below m f) e
 
 -- pieces of the numbered items of a list
 numbered_from : {A : Type 0} (g : ℕ → A → List ℕ) (s : ℕ) (xs : List A) (f : Fin (length xs) → List ℕ)
-    → ((i : Fin (length xs)) (x : A) → to_nat i < length xs → x ≡ get_or xs (to_nat i) x → f i ≡ g (s + to_nat i) x) → pieces (length xs) f ≡ numbered g s xs
+    → ((i : Fin (length xs)) (x : A) → to_nat i < length xs → x ≡ get_or xs (to_nat i) x → f i ≡ g (s + to_nat i) x)
+    → pieces (length xs) f ≡ numbered g s xs
 unfolding pieces numbered to_nat
 numbered_from g s [] f e = refl
 numbered_from g s (x ∷ xs) f e = ap₂ (λ u v. u ++ v) (e first x (omega arith) refl ∙ ap (λ n. g n x) (plus_zero s))
@@ -103,10 +104,12 @@ pieces-numbered {A = A} g xs n e = subst (λ m. (f : Fin m → List ℕ)
     → ((i : Fin m) (x : A) → to_nat i < length xs → x ≡ get_or xs (to_nat i) x → f i ≡ g (suc (to_nat i)) x) → pieces m f ≡ numbered g 1 xs) e
     (λ f same. numbered_from g 1 xs f (λ i x lt is. same i x lt is ∙ ap (λ m. g m x) (one_plus (to_nat i))))
 
-numbered-append : {A : Type 0} (g : ℕ → A → List ℕ) (s : ℕ) (xs : List A) (x : A) → numbered g s (xs ++ x ∷ []) ≡ numbered g s xs ++ g (s + length xs) x
+numbered-append : {A : Type 0} (g : ℕ → A → List ℕ) (s : ℕ) (xs : List A) (x : A)
+    → numbered g s (xs ++ x ∷ []) ≡ numbered g s xs ++ g (s + length xs) x
 unfolding numbered
 numbered-append g s [] x = append-nil (g s x) ∙ ap (λ n. g n x) (sym (plus_zero s))
-numbered-append g s (y ∷ xs) x = ap (λ u. g s y ++ u) (numbered-append g (suc s) xs x ∙ ap (λ n. numbered g (suc s) xs ++ g n x) (sym (moved_suc s (length xs))))
+numbered-append g s (y ∷ xs) x = ap (λ u. g s y ++ u) (numbered-append g (suc s) xs x
+    ∙ ap (λ n. numbered g (suc s) xs ++ g n x) (sym (moved_suc s (length xs))))
     ∙ sym (append_assoc (g s y) (numbered g (suc s) xs) (g (s + suc (length xs)) x))
 
 pub numbered_step : {A : Type 0} (g : ℕ → A → List ℕ) (before text : List ℕ) (xs : List A) (i : ℕ) (x : A) → i < length xs → x ≡ get_or xs i x
@@ -125,7 +128,8 @@ numbered_all g before text xs i le t = t ∙ ap (λ ys. before ++ numbered g 1 y
 -- one more row of c items
 pub rows_step : {A : Type 0} (f : A → List ℕ) (before text : List ℕ) (xs : List A) (i c : ℕ) → text ≡ before ++ flat_map f (take (i * c) xs)
     → text ++ flat_map f (take c (drop (i * c) xs)) ≡ before ++ flat_map f (take ((i + 1) * c) xs)
-rows_step f before text xs i c t = ap (λ u. u ++ flat_map f (take c (drop (i * c) xs))) t ∙ append_assoc before (flat_map f (take (i * c) xs)) (flat_map f (take c (drop (i * c) xs)))
+rows_step f before text xs i c t = ap (λ u. u ++ flat_map f (take c (drop (i * c) xs))) t
+    ∙ append_assoc before (flat_map f (take (i * c) xs)) (flat_map f (take c (drop (i * c) xs)))
     ∙ ap (λ u. before ++ u) (sym (flat_map-append f (take (i * c) xs) (take c (drop (i * c) xs))) ∙ ap (flat_map f) (sym (take-add (i * c) c xs))
     ∙ ap (λ k. flat_map f (take k xs)) (sym (suc-mul i c) ∙ ap (λ n. n * c) (plus_one i)))
 
@@ -133,7 +137,8 @@ rows_step f before text xs i c t = ap (λ u. u ++ flat_map f (take c (drop (i * 
 pub row_item : {A : Type 0} (xs : List A) (i c j : ℕ) (x : A) → slice_get xs (i * c + j) ≡ Some x
     → (j < length (drop (i * c) xs)) × (x ≡ get_or (drop (i * c) xs) j x)
 row_item xs i c j x e = (
-  (let lt : i * c + j < length xs = slice_get_within xs (i * c + j) x e in let l : length (drop (i * c) xs) ≡ length xs - i * c = length-drop (i * c) xs in omega arith),
+  (let lt : i * c + j < length xs = slice_get_within xs (i * c + j) x e in
+      let l : length (drop (i * c) xs) ≡ length xs - i * c = length-drop (i * c) xs in omega arith),
   sym (get_or-drop (i * c) xs j x ∙ get_or_from_slice_get xs (i * c + j) x x e),
 )
 

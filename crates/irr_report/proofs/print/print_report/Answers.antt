@@ -9,4 +9,5 @@ pub returns-clause-text : goal.returns-clause-text
 returns-clause-text g c = c.in_ok-text.ensures ∙ printed-content c.args.r.now c.requires
 
 pub returns-clause-list : goal.returns-clause-list
-returns-clause-list g c = λ h ops T L is. c.in_ok-text.ensures ∙ printed-content c.args.r.now c.requires ∙ ap report_text (content-list c.args.r.now ops T L is)
+returns-clause-list g c = λ h ops T L is. c.in_ok-text.ensures ∙ printed-content c.args.r.now c.requires
+    ∙ ap report_text (content-list c.args.r.now ops T L is)

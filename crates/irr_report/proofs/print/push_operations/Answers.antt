@@ -8,5 +8,6 @@ pub loop-i-init : goal.loop-i-init
 loop-i-init c = numbered_none operation_text c.args.text.now.items
 
 pub loop-i-preserved : goal.loop-i-preserved
-loop-i-preserved c = c.in_ok-push_operation.ensures ∙ numbered_step operation_text c.args.text.now.items c.loop-i.text.items c.args.ops.now c.loop-i.i c.index-ops-i.result
+loop-i-preserved c = c.in_ok-push_operation.ensures ∙ numbered_step operation_text c.args.text.now.items c.loop-i.text.items c.args.ops.now
+    c.loop-i.i c.index-ops-i.result
     c.loop-i-test.true c.index-ops-i.is c.loop-i.invariant

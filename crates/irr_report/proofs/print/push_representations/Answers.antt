@@ -8,5 +8,6 @@ pub loop-i-init : goal.loop-i-init
 loop-i-init g c = numbered_none (representation_text {G = g.S.Scalar}) c.args.text.now.items
 
 pub loop-i-preserved : goal.loop-i-preserved
-loop-i-preserved g c = c.in_ok-push_representation.ensures ∙ numbered_step (representation_text {G = g.S.Scalar}) c.args.text.now.items c.loop-i.text.items
+loop-i-preserved g c = c.in_ok-push_representation.ensures ∙ numbered_step (representation_text {G = g.S.Scalar}) c.args.text.now.items
+    c.loop-i.text.items
     c.args.reps.now c.loop-i.i c.index-reps-i.result c.loop-i-test.true c.index-reps-i.is c.loop-i.invariant
