@@ -3,15 +3,14 @@
 --   values-pieces         a row of numbers of one order
 --   matrix-pieces         the entries of a matrix, row by row
 --   printed-content       the lines of a report are the text of its content
-use Rattle.std.proofs.Common.{◌≡◌, sym, ◌∙◌, ap, ap₂, subst, refl, ℕ, suc, ◌+◌, ◌*◌, ◌<◌, List, [], ◌∷◌, ◌++◌, length, map, get_or, All, arith}
+use Rattle.std.proofs.Common.{◌≡◌, sym, ◌∙◌, ap, ap₂, subst, refl, ℕ, suc, ◌*◌, ◌<◌, List, [], ◌∷◌, ◌++◌, length, map, get_or, All}
 use Rattle.std.specs.Prelude.{codes}
-use Rattle.std.specs.List.{flat_map}
 use Rattle.std.specs.Fmt.{decimal}
 use Rattle.std.proofs.lemmas.List.{get_or-map}
 use Rattle.std.proofs.lemmas.List.Elements.{All-get_or}
 use Rattle.irr_algebra.specs.Fin.{Fin, to_nat}
 use Rattle.irr_algebra.specs.Matrix.{Matrix}
-use Rattle.irr_number.specs.Number.{Number, numbers}
+use Rattle.irr_number.specs.Number.{numbers}
 use Rattle.irr_space.specs.Operation.{identity}
 use Rattle.irr_text.specs.NumberText.{number_text, pieces_below}
 use Rattle.irr_text.specs.TripletText.{triplet_text}
@@ -20,14 +19,14 @@ use Rattle.irr_seitz.specs.declared.op.Op.{Op}
 use Rattle.irr_seitz.specs.OperationMeaning.{operation}
 use Rattle.irr_cyc.specs.declared.scalars.Scalar.{Ghosts}
 use Rattle.irr_mat.specs.declared.matrices.Mat.{Mat}
-use Rattle.irr_mat.specs.Entries.{first_order, matrix_of}
+use Rattle.irr_mat.specs.Entries.{matrix_of}
 use Rattle.irr_mat.proofs.Entries.{matrix_of-at}
 use Rattle.irr_rep.specs.Family.{HasShape, matrix_at}
 use Rattle.irr_rep.proofs.Families.{matrix_at-item, item-rows, item-cols, item-order}
 use Rattle.irr_report.specs.declared.report.RepText.{RepText}
 use Rattle.irr_report.specs.declared.report.Report.{Report}
-use Rattle.irr_report.specs.Content.{FitsTogether, HasPlaces, number_at, content_of, sizes, characters, matrices}
-use Rattle.irr_report.specs.Printed.{head_text, value_word, values_text, numbered, operation_text, character_text, matrix_text, representation_text, printed_report}
+use Rattle.irr_report.specs.Content.{FitsTogether, HasPlaces, number_at, content_of, characters, matrices}
+use Rattle.irr_report.specs.Printed.{head_text, value_word, values_text, numbered, operation_text, matrix_text, representation_text, printed_report}
 use Rattle.irr_report.proofs.Pieces.{pieces-same, pieces-rows, pieces-list, pieces-numbered, pieces_below-list}
 
 -- the item at a place of a mapped list

@@ -3,15 +3,13 @@
 --   matrix-parts          the parts of the line of a matrix
 --   head-parts            the lines before those of the operations
 --   report-parts          the parts of a report
-use Rattle.std.proofs.Common.{◌≡◌, sym, ◌∙◌, ap, ap₂, refl, ℕ, ◌+◌, ◌*◌, ◌<◌, ◌≤◌, List, [], ◌∷◌, ◌++◌, append_assoc, append-nil, length, get_or, take, drop, zero-mul, arith}
+use Rattle.std.proofs.Common.{◌≡◌, sym, ◌∙◌, ap, ℕ, ◌+◌, ◌*◌, ◌<◌, ◌≤◌, List, [], ◌∷◌, ◌++◌, append_assoc, append-nil, length, get_or, take, drop, zero-mul, arith}
 use native.Mathlib.Nat as Nat
 use Rattle.std.specs.Prelude.{codes}
 use Rattle.std.specs.Fmt.{decimal}
 use Rattle.std.proofs.lemmas.List.{take_all}
 use Rattle.irr_number.specs.Number.{Number}
 use Rattle.irr_text.specs.ReportText.{line, next_word}
-use Rattle.irr_text.specs.WaveText.{wave_text}
-use Rattle.irr_kvec.specs.WaveMeaning.{wave_vector}
 use Rattle.irr_cyc.specs.declared.scalars.Scalar.{Ghosts}
 use Rattle.irr_report.specs.declared.report.Report.{Report}
 use Rattle.irr_report.specs.Printed.{value_word, values_text, numbered, head_text, operation_text, representation_text, printed_report}

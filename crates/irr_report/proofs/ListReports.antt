@@ -1,6 +1,6 @@
 -- A report whose representations are those of a list says what the list's report says.
 --   content-list     its content is the report of the list
-use Rattle.std.proofs.Common.{◌≡◌, sym, ◌∙◌, ap, refl, ℕ, List, [], length, get_or}
+use Rattle.std.proofs.Common.{◌≡◌, ◌∙◌, ap, ℕ, [], length, get_or}
 use mathlib.Core.Path.{fun_ext}
 use Rattle.irr_algebra.specs.Fin.{Fin, to_nat}
 use Rattle.irr_algebra.specs.Matrix.{Matrix}

@@ -1,7 +1,7 @@
 -- A report of the program whose representations are those of a list on a table of phases.
 --   IsReportOfList r ops T L     the operations are ops, the order is that of T, and the representations have the matrices of L,
 --                                with their traces as characters
-use Rattle.std.specs.Prelude.{ℕ, ◌≡◌, List, [], length, slice_index_or}
+use Rattle.std.specs.Prelude.{ℕ, ◌≡◌, [], length, slice_index_or}
 use Rattle.irr_algebra.specs.Fin.{Fin, to_nat}
 use Rattle.irr_theory.specs.Representations.{Representations}
 use Rattle.irr_space.specs.Operation.{Operation, identity}

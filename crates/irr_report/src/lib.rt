@@ -8,3 +8,6 @@ mod report;
 pub use irr_memory::Memory;
 pub use print::print_report;
 pub use report::{RepText, Report};
+
+#[cfg(test)]
+mod tests;
