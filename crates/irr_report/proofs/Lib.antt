@@ -1,0 +1,4 @@
+pub mod Pieces
+pub mod LineTexts
+pub mod Contents
+pub mod ListReports

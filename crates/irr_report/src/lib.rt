@@ -1,0 +1,13 @@
+//! Reports of small representations as text.
+#![tactic(auto)]
+
+mod lines;
+mod print;
+mod report;
+
+pub use irr_memory::Memory;
+pub use print::print_report;
+pub use report::{RepText, Report};
+
+#[cfg(test)]
+mod tests;
