@@ -1,7 +1,7 @@
 -- Determinants of products of rotations.
 --   determinant-mul          the determinant of a product
 --   generated_unimodular     what rotations of determinant 1 or -1 generate has such rotations
-use Rattle.std.proofs.Common.{◌≡◌, sym, ◌∙◌, ap, ap₂, subst, refl, ◌*◌, ℤ, pos, ◌+ℤ◌, ◌-ℤ◌, ◌*ℤ◌, neg_ℤ, unsigned_abs, List, Contains, arith}
+use Rattle.std.proofs.Common.{◌≡◌, sym, ◌∙◌, ap, ap₂, subst, refl, ◌*◌, ℤ, ◌+ℤ◌, ◌-ℤ◌, ◌*ℤ◌, neg_ℤ, unsigned_abs, List, Contains, arith}
 use Rattle.std.proofs.lemmas.Int.{ints, unsigned_abs-mul}
 use Rattle.irr_algebra.specs.Fin.{Fin}
 use Rattle.irr_algebra.specs.Fin.Fin.{first, next}
@@ -10,7 +10,7 @@ use Rattle.irr_algebra.specs.Sum.{sum, delta}
 use Rattle.irr_algebra.specs.Matrix.{◌·◌, unit}
 use Rattle.irr_algebra.proofs.Rings.{ring_laws}
 use Rattle.irr_number.specs.Integers.{integers}
-use Rattle.irr_space.specs.Operation.{Operation, Rotation, ◌⊙◌, identity, translation, IsInverse}
+use Rattle.irr_space.specs.Operation.{Operation, Rotation, ◌⊙◌}
 use Rattle.irr_space.specs.SpaceGroup.{Generated}
 use Rattle.irr_space.specs.SpaceGroup.Generated.{one, generator, unit_translation, product, inverse}
 use Rattle.irr_seitz.specs.Rotation.{determinant, signed_sum}

@@ -6,7 +6,7 @@ use Rattle.std.proofs.Common.{◌≡◌, sym, ◌∙◌, ap, ap₂, subst, ℕ, 
 use Rattle.std.specs.Int.{int_div_euclid, int_rem_euclid}
 use native.Mathlib.Nat as Nat
 use Rattle.irr_rational.specs.Integer.{integer}
-use Rattle.irr_rational.specs.Rational.{Rational, rationals, ratio, IsWhole}
+use Rattle.irr_rational.specs.Rational.{rationals, ratio, IsWhole}
 use Rattle.irr_rational.proofs.Floors.{floor-quotient, floor_unique, floor_of_integer}
 use Rattle.irr_rational.proofs.Integers.{integer-mul, integer-pos}
 use Rattle.irr_rational.proofs.Ratios.{integer-ratio, cross_of_ratio}

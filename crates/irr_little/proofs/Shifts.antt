@@ -2,7 +2,7 @@
 --   small_ops, small_pairs, small_product, small_numbers     common denominators and numerators
 --   small_of_over                                            numerators in lowest terms are as small as the vector
 --   product_numbers, difference_numbers                      products and their differences from canonical operations
-use Rattle.std.proofs.Common.{◌≡◌, sym, ◌∙◌, ap, ap₂, subst, refl, ℕ, ◌+◌, ◌*◌, ◌<◌, ◌≤◌, ◌^◌, ℤ, pos, ◌+ℤ◌, ◌-ℤ◌, ◌*ℤ◌, neg_ℤ, unsigned_abs, List, [], ◌∷◌, length, get_or, lit<, arith}
+use Rattle.std.proofs.Common.{◌≡◌, sym, ◌∙◌, ap, subst, refl, ℕ, ◌+◌, ◌*◌, ◌<◌, ◌≤◌, ◌^◌, ℤ, pos, ◌+ℤ◌, ◌-ℤ◌, ◌*ℤ◌, neg_ℤ, unsigned_abs, List, [], ◌∷◌, length, get_or, lit<, arith}
 use Rattle.std.proofs.Math.Logic.{∥∥₁_elim}
 use Rattle.std.proofs.lemmas.Int.{ints, unsigned_abs-mul}
 use Rattle.std.specs.Int.{◌∣◌}
@@ -13,7 +13,7 @@ use Rattle.irr_rational.specs.Integer.{whole_matrix}
 use Rattle.irr_rational.specs.Rational.{rationals, ratio}
 use Rattle.irr_rational.proofs.Ratios.{ratio-neg}
 use Rattle.irr_rational.specs.Ratio.{entry}
-use Rattle.irr_space.specs.Operation.{Operation, Vector, ◌⊙◌, component}
+use Rattle.irr_space.specs.Operation.{Operation, ◌⊙◌, component}
 use Rattle.irr_space.specs.CanonicalOperation.{IsInCell}
 use Rattle.irr_rat.specs.Lcm.{IsLcm}
 use Rattle.irr_rat.specs.Lowest.{AreThreeLowest}
@@ -21,7 +21,7 @@ use Rattle.irr_rat.specs.VectorMeaning.{vector_of, Fits}
 use Rattle.irr_rat.specs.declared.vec3.Vec3.{Vec3}
 use Rattle.irr_rat.proofs.LowestForms.{lowest_divides}
 use Rattle.irr_rat.proofs.Vectors.{component-vector_of, component-add, component-sub, vector-ext, vector_of-add, vector_of-sub, each_of_three}
-use Rattle.irr_seitz.specs.Rotation.{rotation_of, IsWithin}
+use Rattle.irr_seitz.specs.Rotation.{IsWithin}
 use Rattle.irr_seitz.specs.OperationMeaning.{operation, AreWithin}
 use Rattle.irr_seitz.specs.declared.op.Op.{Op}
 use Rattle.irr_seitz.proofs.Sizes.{abs-add, abs-sub, abs-mul}

@@ -7,10 +7,8 @@
 --   kept_of_carried, carried_of_kept     it carries k to an equivalent one exactly where kR is equivalent to k
 --   carried_same, carried_to     it carries k to one wave vector, up to equivalence
 use Rattle.std.proofs.Common.{◌≡◌, sym, ◌∙◌, ap, subst, subst₂, ℕ, ◌<◌, ◌↔◌, length, get_or}
-use Rattle.irr_algebra.specs.Fin.{Fin, to_nat}
-use Rattle.irr_algebra.specs.Matrix.{◌⊖◌}
-use Rattle.irr_algebra.proofs.Indices.{from_nat, to_nat-from_nat, to_nat-lt}
-use Rattle.irr_space.specs.Operation.{Operation, WaveVector, ◌⊙◌, identity, IsInverse, turned}
+use Rattle.irr_algebra.proofs.Indices.{from_nat, to_nat-from_nat}
+use Rattle.irr_space.specs.Operation.{Operation, WaveVector, IsInverse, turned}
 use Rattle.irr_space.specs.Reciprocal.{IsReciprocal, AreEquivalent}
 use Rattle.irr_space.specs.CanonicalOperation.{IsCanonicalOperation, IsNumbering}
 use Rattle.irr_space.specs.Star.{Carries}

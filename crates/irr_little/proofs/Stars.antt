@@ -16,14 +16,13 @@ use Rattle.irr_rat.specs.declared.vec3.Vec3.{Vec3}
 use Rattle.irr_number.specs.SumLaws.{same_or_not}
 use Rattle.irr_space.specs.Operation.{Operation, WaveVector}
 use Rattle.irr_space.specs.Reciprocal.{AreEquivalent, IsReduced}
-use Rattle.irr_space.specs.Star.{Carries, IsInStar, IsArms}
+use Rattle.irr_space.specs.Star.{Carries, IsInStar}
 use Rattle.irr_seitz.specs.OperationMeaning.{operation}
 use Rattle.irr_seitz.specs.declared.op.Op.{Op}
 use Rattle.irr_kvec.specs.WaveMeaning.{wave_vector}
 use Rattle.irr_kvec.specs.Centrings.{LatticeOf, IsWithinLimits}
 use Rattle.irr_cocycle.proofs.Operations.{turned-rotation}
-use Rattle.irr_cocycle.proofs.Reciprocals.{equivalent_refl, equivalent_sym, equivalent_trans}
-use Rattle.irr_close.specs.Canonical.{numbered}
+use Rattle.irr_cocycle.proofs.Reciprocals.{equivalent_refl, equivalent_trans}
 use Rattle.irr_close.specs.StandsFor.{stands_for}
 use Rattle.irr_close.specs.declared.group.Group.{Group}
 use Rattle.irr_close.proofs.Bareness.{first_of}

@@ -4,37 +4,35 @@
 --   little_numbering           the operations with listed numbers are a numbering of the little group
 --   closed_places              the listed numbers are few, and have those of products
 --   listed_table               lists of products and exponents are those of a table of the little group
-use Rattle.std.proofs.Common.{◌≡◌, sym, ◌∙◌, ap, ap₂, subst, subst₂, refl, ℕ, suc, zero, ◌+◌, ◌*◌, ◌<◌, ◌≤◌, ℤ, pos, ◌*ℤ◌, List, length, get_or, slice_index, Contains, inl, inr, arith}
-use Rattle.std.proofs.lemmas.Bool.{cases_lt}
+use Rattle.std.proofs.Common.{◌≡◌, sym, ◌∙◌, ap, subst, subst₂, refl, ℕ, suc, zero, ◌<◌, ◌≤◌, pos, List, length, get_or, slice_index, Contains, arith}
 use Rattle.std.proofs.lemmas.List.{get_or_default}
 use Rattle.std.proofs.lemmas.List.Elements.{Contains-get_or}
 use Rattle.irr_algebra.specs.Fin.{Fin, to_nat}
 use Rattle.irr_algebra.specs.Ring.{whole}
-use Rattle.irr_algebra.specs.Matrix.{◌·◌, ◌⊕◌, ◌⊖◌}
-use Rattle.irr_algebra.proofs.Indices.{from_nat, to_nat-from_nat, to_nat-lt, to_nat_inj}
-use Rattle.irr_algebra.proofs.Rings.{ring_laws}
+use Rattle.irr_algebra.specs.Matrix.{◌⊖◌}
+use Rattle.irr_algebra.proofs.Indices.{from_nat, to_nat-from_nat, to_nat-lt}
 use Rattle.irr_algebra.proofs.Whole.{whole-mul}
 use Rattle.irr_rational.specs.Integer.{integer}
 use Rattle.irr_rational.specs.Rational.{Rational, rationals, IsWhole}
 use Rattle.irr_rational.proofs.Integers.{integer-pos}
 use Rattle.irr_rational.proofs.WholeNumbers.{whole-mul as product_whole, whole-integer}
-use Rattle.irr_space.specs.Operation.{Operation, Rotation, Vector, WaveVector, ◌⊙◌, identity, translation, IsInverse, dot, turned}
+use Rattle.irr_space.specs.Operation.{Operation, Vector, WaveVector, ◌⊙◌, identity, translation, dot, turned}
 use Rattle.irr_space.specs.SpaceGroup.{IsTranslation}
-use Rattle.irr_space.specs.Reciprocal.{AreEquivalent, IsOrder, IsPhase, Sign, times}
-use Rattle.irr_space.specs.CanonicalOperation.{IsCanonicalOperation, IsNumbering, IsNumberedBefore}
+use Rattle.irr_space.specs.Reciprocal.{AreEquivalent, IsOrder, IsPhase}
+use Rattle.irr_space.specs.CanonicalOperation.{IsNumbering, IsNumberedBefore}
 use Rattle.irr_space.specs.Star.{IsInLittleGroup}
 use Rattle.irr_space.specs.PhaseTable.{PhaseTable, IsTableOf}
 use Rattle.irr_seitz.specs.OperationMeaning.{operation}
 use Rattle.irr_seitz.specs.PhaseMeaning.{sign_of}
 use Rattle.irr_seitz.specs.declared.op.Op.{Op}
-use Rattle.irr_cocycle.specs.SpaceGroupLaws.{IsGroup, HasCanonical}
-use Rattle.irr_cocycle.proofs.Operations.{op-assoc, op-identity, rotation-op, rotation-translation-op, vector-translation-op, add-sub, dot-times}
+use Rattle.irr_cocycle.specs.SpaceGroupLaws.{IsGroup}
+use Rattle.irr_cocycle.proofs.Operations.{op-assoc, op-identity, rotation-translation-op, vector-translation-op, add-sub, dot-times}
 use Rattle.irr_cocycle.proofs.Reciprocals.{little_identity, little_product, little_rotation}
 use Rattle.irr_cocycle.proofs.Phases.{phase_unique}
 use Rattle.irr_cocycle.proofs.LittleGroups.{rotation_distinct, little_table, little_table-is_table, little_table-order}
 use Rattle.irr_rep.specs.Table.{AreEntries, IsListed, HasInverses, IsFactorSystem, entry, IsGroup as ProductGroup}
 use Rattle.irr_rep.proofs.Listed.{listed-group, listed-inverses, listed-factors, listed-same}
-use Rattle.irr_close.specs.Canonical.{AreCanonical, numbered}
+use Rattle.irr_close.specs.Canonical.{numbered}
 use Rattle.irr_close.specs.StandsFor.{stands_for}
 use Rattle.irr_close.specs.declared.group.Group.{Group}
 use Rattle.irr_close.proofs.Bareness.{first_of}

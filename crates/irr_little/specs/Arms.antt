@@ -1,7 +1,7 @@
 -- The arms of a star.
 --   AreArms group k arms     arms are the arms of the star of k, each reduced and with the number of the first canonical
 --                            operation that carries k to it, in the order of these numbers
-use Rattle.std.specs.Prelude.{ℕ, ◌≡◌, List, length, slice_index_or}
+use Rattle.std.specs.Prelude.{◌≡◌, List, length, slice_index_or}
 use Rattle.irr_algebra.specs.Fin.{Fin, to_nat}
 use Rattle.irr_space.specs.Operation.{WaveVector}
 use Rattle.irr_space.specs.Star.{IsArms}

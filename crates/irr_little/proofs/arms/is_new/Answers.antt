@@ -1,4 +1,4 @@
-use Rattle.std.proofs.Common.{◌≡◌, ◌∙◌, subst, inl, inr, ◌<◌, ◌≤◌, get_or, length, arith}
+use Rattle.std.proofs.Common.{◌≡◌, ◌∙◌, subst, inl, inr, get_or, arith}
 use Rattle.std.proofs.lemmas.Bool.{cases_lt}
 use Rattle.std.proofs.lemmas.List.{get_or_default}
 use Rattle.irr_space.specs.Reciprocal.{AreEquivalent}

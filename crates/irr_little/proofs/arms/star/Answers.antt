@@ -1,4 +1,4 @@
-use Rattle.std.proofs.Common.{◌≡◌, sym, ◌∙◌, ap, subst, refl, ◌+◌, ◌<◌, ◌≤◌, length, get_or, arith}
+use Rattle.std.proofs.Common.{◌≡◌, sym, ◌∙◌, ap, subst, refl, ◌+◌, ◌<◌, length, get_or, arith}
 use Rattle.std.specs.List.{All}
 use Rattle.irr_space.specs.Reciprocal.{IsReduced}
 use Rattle.irr_kvec.specs.WaveMeaning.{wave_vector}

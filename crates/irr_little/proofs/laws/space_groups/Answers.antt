@@ -8,10 +8,8 @@ use Rattle.irr_little.proofs.Determinants.{generated_unimodular}
 use Rattle.irr_space.specs.Operation.{Operation, ◌⊙◌, identity}
 use Rattle.irr_space.specs.SpaceGroup.{Generated}
 use Rattle.irr_cocycle.specs.SpaceGroupLaws.{IsGroup}
-use Rattle.irr_kvec.specs.Centrings.{AreCentrings}
 use Rattle.irr_close.specs.Limits.{operations}
 use Rattle.irr_close.specs.StandsFor.{stands_for}
-use Rattle.irr_close.specs.declared.group.Group.{Group}
 use Rattle.irr_little.proofs.Spaces.{form_of, centrings_of, canonical_at}
 use Rattle.irr_little.proofs.laws.space_groups.Goals as goal
 

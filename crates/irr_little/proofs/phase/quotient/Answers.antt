@@ -1,4 +1,4 @@
-use Rattle.std.proofs.Common.{◌≡◌, ◌^◌, ◌∙◌, ap, ℤ, pos, to_z, of_z}
+use Rattle.std.proofs.Common.{◌^◌, ◌∙◌, ap, ℤ, pos, to_z, of_z}
 use Rattle.std.specs.Int.{w128, int_div_euclid}
 use Rattle.std.proofs.lemmas.Int.{to_z-of_z}
 use Rattle.irr_rational.specs.Integer.{integer}

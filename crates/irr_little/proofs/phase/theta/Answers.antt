@@ -1,4 +1,4 @@
-use Rattle.std.proofs.Common.{◌≡◌, sym, ◌∙◌, ap, ap₂, pos, ◌*ℤ◌}
+use Rattle.std.proofs.Common.{◌∙◌, ap, ap₂, pos, ◌*ℤ◌}
 use Rattle.std.specs.Int.{w128, int_rem_euclid}
 use Rattle.std.proofs.lemmas.Int.{to_z-of_z}
 use Rattle.irr_space.specs.Reciprocal.{sign_number}

@@ -1,4 +1,4 @@
-use Rattle.std.proofs.Common.{◌≡◌, sym, ◌∙◌, ap, ap₂, subst, ◌*◌, pos, ◌*ℤ◌}
+use Rattle.std.proofs.Common.{sym, ◌∙◌, ap, ap₂, subst, ◌*◌, pos, ◌*ℤ◌}
 use Rattle.std.specs.Int.{w128}
 use Rattle.std.proofs.lemmas.Int.{to_z-of_z}
 use Rattle.irr_rational.specs.Integer.{integer}

@@ -1,4 +1,4 @@
-use Rattle.std.proofs.Common.{sym, subst, ◌*◌, ◌<◌, ◌≤◌, ◌^◌, length, arith}
+use Rattle.std.proofs.Common.{◌*◌, ◌≤◌, ◌^◌, length, arith}
 use native.Mathlib.Nat as Nat
 use Rattle.irr_little.proofs.places.cell.Goals as goal
 

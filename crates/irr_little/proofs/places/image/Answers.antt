@@ -4,7 +4,6 @@ use Rattle.irr_algebra.specs.Matrix.{◌⊖◌}
 use Rattle.irr_rational.specs.Ratio.{entry}
 use Rattle.irr_space.specs.Operation.{turned}
 use Rattle.irr_space.specs.Reciprocal.{AreEquivalent}
-use Rattle.irr_space.specs.Star.{Carries}
 use Rattle.irr_seitz.specs.Rotation.{determinant}
 use Rattle.irr_seitz.specs.OperationMeaning.{operation}
 use Rattle.irr_seitz.specs.declared.op.Op.{Op}

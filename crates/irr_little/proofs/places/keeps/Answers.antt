@@ -1,4 +1,4 @@
-use Rattle.std.proofs.Common.{sym, subst, ◌<◌, length, get_or}
+use Rattle.std.proofs.Common.{sym, subst, get_or}
 use Rattle.irr_algebra.specs.Matrix.{◌⊖◌}
 use Rattle.irr_space.specs.Reciprocal.{AreEquivalent}
 use Rattle.irr_seitz.specs.OperationMeaning.{operation}

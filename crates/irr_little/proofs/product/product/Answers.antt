@@ -2,8 +2,7 @@ use Rattle.std.proofs.Common.{◌≡◌, sym, ◌∙◌, ap, ap₂, subst, refl,
 use Rattle.std.proofs.lemmas.List.{get_or_default}
 use Rattle.std.specs.List.{HoldsAt}
 use Rattle.irr_algebra.specs.Matrix.{◌⊖◌}
-use Rattle.irr_space.specs.Operation.{Operation, ◌⊙◌, translation}
-use Rattle.irr_rat.specs.VectorMeaning.{vector}
+use Rattle.irr_space.specs.Operation.{◌⊙◌, translation}
 use Rattle.irr_seitz.specs.Rotation.{rotation_of}
 use Rattle.irr_seitz.specs.OperationMeaning.{operation}
 use Rattle.irr_seitz.specs.declared.op.Op.{Op}

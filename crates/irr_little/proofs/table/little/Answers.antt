@@ -1,4 +1,3 @@
-use Rattle.std.proofs.Common.{◌≤◌}
 use Rattle.irr_rep.specs.Twisted.{phase_table, table_of}
 use Rattle.irr_little.proofs.table.little.Goals as goal
 

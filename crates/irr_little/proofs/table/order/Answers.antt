@@ -1,4 +1,4 @@
-use Rattle.std.proofs.Common.{◌≡◌, sym, ap₂, subst, ◌*◌}
+use Rattle.std.proofs.Common.{sym, ap₂, subst, ◌*◌}
 use Rattle.irr_space.specs.Reciprocal.{IsPeriod}
 use Rattle.irr_kvec.specs.WaveMeaning.{wave_vector}
 use Rattle.irr_kvec.specs.Centrings.{LatticeOf, IsCentringList}

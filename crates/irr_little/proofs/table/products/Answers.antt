@@ -2,7 +2,7 @@
 use Rattle.std.proofs.Common.{◌≡◌, ◌+◌, ◌*◌, sym, ◌∙◌, ap, subst, [], ◌∷◌, length, slice_index, length-append, arith}
 use Rattle.std.proofs.lemmas.List.Elements.{Contains-get_or}
 use Rattle.irr_rat.specs.VectorMeaning.{vector}
-use Rattle.irr_rep.proofs.Rows.{FilledRows, filled-nil, filled-push, filled-entries}
+use Rattle.irr_rep.proofs.Rows.{FilledRows, filled-push, filled-entries}
 use Rattle.irr_little.specs.Products.{IsProduct}
 use Rattle.irr_little.specs.Entries.{IsProductEntry}
 use Rattle.irr_little.proofs.table.products.Goals as goal

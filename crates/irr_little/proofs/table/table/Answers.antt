@@ -1,10 +1,10 @@
 -- The table of the little group.
-use Rattle.std.proofs.Common.{◌≡◌, sym, ◌∙◌, ap, subst, ℕ, ◌<◌, ◌≤◌, List, length, vec_len, arith}
+use Rattle.std.proofs.Common.{◌≡◌, sym, ◌∙◌, ap, subst, ℕ, ◌<◌, ◌≤◌, List, length, vec_len}
 use Rattle.irr_seitz.specs.PhaseMeaning.{sign_of}
 use Rattle.irr_kvec.specs.WaveMeaning.{wave_vector}
 use Rattle.irr_cocycle.proofs.Phases.{order-positive}
 use Rattle.irr_rep.specs.Table.{AreEntries}
-use Rattle.irr_rep.specs.Twisted.{phase_table, place_count, operation_places}
+use Rattle.irr_rep.specs.Twisted.{phase_table, place_count}
 use Rattle.irr_space.specs.Operation.{WaveVector}
 use Rattle.irr_close.specs.declared.group.Group.{Group}
 use Rattle.irr_close.specs.StandsFor.{stands_for}
