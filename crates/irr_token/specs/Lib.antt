@@ -1,0 +1,4 @@
+pub mod Kinds
+pub mod Token
+pub mod Spelling
+pub mod Quotient
