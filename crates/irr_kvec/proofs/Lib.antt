@@ -8,3 +8,4 @@ pub mod LeastFactors
 pub mod GroupLattices
 pub mod Actions
 pub mod CentringLists
+pub mod WaveRecogniser

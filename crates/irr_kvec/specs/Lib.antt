@@ -1,2 +1,4 @@
 pub mod WaveMeaning
 pub mod Centrings
+pub mod WrittenWave
+pub mod WaveFront

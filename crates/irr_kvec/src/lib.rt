@@ -7,6 +7,7 @@ mod laws;
 mod periods;
 mod reciprocal;
 mod reduction;
+mod shape;
 mod wave;
 
 pub use action::act;
