@@ -1,1 +1,3 @@
 pub mod Lexing
+pub mod Blanks
+pub mod Signs
