@@ -1,3 +1,5 @@
 pub mod Lexing
 pub mod Blanks
 pub mod Signs
+pub mod Narrowing
+pub mod FirstFaults

@@ -1,10 +1,12 @@
 //! Texts of tokens with blanks between: bytes and their kinds, blanks, and fractions as they are written.
 #![tactic(auto)]
 
+mod common;
 mod faults;
 mod kind;
 mod read;
 
+pub use common::{Value, over_least_denominator, value_of_quotient};
 pub use faults::{DENOMINATOR_LIMIT, beyond_place, is_above, zero_place};
 pub use kind::{Kind, kind_of_byte};
 pub use read::{
