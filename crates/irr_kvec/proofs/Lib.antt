@@ -9,3 +9,4 @@ pub mod GroupLattices
 pub mod Actions
 pub mod CentringLists
 pub mod WaveRecogniser
+pub mod WaveAnswers

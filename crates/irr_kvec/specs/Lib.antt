@@ -2,3 +2,5 @@ pub mod WaveMeaning
 pub mod Centrings
 pub mod WrittenWave
 pub mod WaveFront
+pub mod WaveFault
+pub mod WaveParts
