@@ -10,3 +10,4 @@ pub mod Actions
 pub mod CentringLists
 pub mod WaveRecogniser
 pub mod WaveAnswers
+pub mod PrintedWaves

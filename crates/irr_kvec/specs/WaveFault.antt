@@ -5,6 +5,7 @@
 --   IsWritten m w k           no denominator of w is 0, no number passes its limit, and k is its value
 --   IsRangeFault m w n p      a number of w passes its limit, the first of them at p; or only the common denominator does, and p is n
 --   IsFault m text e          the error e comes with the text, at its place
+--   IsTextOf text k           the text writes k, with no fault
 use Rattle.std.specs.Prelude.{ℕ, ℤ, ◌≡◌, ◌≤◌, ◌⊎◌, List, ◌++◌, length}
 use Rattle.irr_algebra.specs.Fin.{Fin}
 use Rattle.irr_algebra.specs.Fin.Fin.{first, next}
@@ -52,3 +53,10 @@ abbrev pub IsFault : ℕ → List ℕ → WaveError → Type 0
 IsFault m text (Shape p) = ¬ (IsWave text) × IsShapePlace IsWave text p
 IsFault m text (Zero p) = IsWave text × ((w : WrittenWave) → IsSpelling w text → IsFirstZero (wave_denominators w) p)
 IsFault m text (Range p) = IsWave text × ((w : WrittenWave) → IsSpelling w text → IsRangeFault m w (length text) p)
+
+-- the text spells a wave vector with no fault, within the limit of 100,000 on each number, and k is its value
+pub record IsTextOf (text : List ℕ) (k : WaveVector) : Type 0 where
+  pub wave : WrittenWave
+  pub spells : IsSpelling wave text
+  pub written : IsWritten DENOMINATOR_LIMIT wave k
+  pub common : HasCommonDenominator wave

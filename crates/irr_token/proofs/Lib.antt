@@ -3,3 +3,4 @@ pub mod Blanks
 pub mod Signs
 pub mod Narrowing
 pub mod FirstFaults
+pub mod PrintedQuotients
