@@ -4,7 +4,7 @@
 --   blanks_unique     a text parts in one way into blanks and a rest that begins with none
 --   behind_parts      what stands behind a front and the blanks behind it
 use Rattle.std.proofs.Common.{◌≡◌, refl, sym, ◌∙◌, ap, subst, ℕ, zero, suc, ◌<◌, ◌≤◌, ◌+◌, List, [], ◌∷◌, ◌++◌, length, get_or, take, drop, arith, add-one}
-use Rattle.std.proofs.Math.Seq.{take-suc, drop-append_seam, take-append_seam}
+use Rattle.std.proofs.Math.Seq.{take-suc, drop-append_seam}
 use Rattle.std.proofs.lemmas.List.{take-append-drop, length-take-le}
 use Rattle.std.specs.Str.Parse.{AllDigits, IsNumeral}
 use Rattle.irr_digits.specs.DigitRun.{BeginsWithDigit}
@@ -14,7 +14,7 @@ use Rattle.irr_token.specs.Token.{PlacedNumber, Token}
 use Rattle.irr_token.specs.Token.Token.{number, mark}
 use Rattle.irr_token.specs.Spelling.{IsBehind, AreSpelled}
 use Rattle.irr_token.proofs.Lexing.{digit_kind}
-use Rattle.irr_token.specs.Kinds.{kind_of, AreBlanks}
+use Rattle.irr_token.specs.Kinds.{AreBlanks}
 use Rattle.irr_token.specs.Reading.{BeginsWithBlank, IsBehindNumber}
 
 blanks-append : (bs cs : List ℕ) → AreBlanks bs → AreBlanks cs → AreBlanks (bs ++ cs)

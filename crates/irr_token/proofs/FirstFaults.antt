@@ -2,11 +2,11 @@
 --   none-zero, here-zero, later-zero           zeros of two lists of numbers
 --   none-beyond, here-beyond, later-beyond     and numbers beyond their limits
 --   same-denominators, same-limited, same-value     what is read of a fraction is what is written
-use Rattle.std.proofs.Common.{◌≡◌, refl, sym, ◌∙◌, ap, ap₂, subst, ℕ, List, [], ◌∷◌, ◌++◌, Option, ◌⊎◌, inl, inr}
+use Rattle.std.proofs.Common.{◌≡◌, ap, ap₂, ℕ, List, [], ◌∷◌, ◌++◌, Option, inl, inr}
 use Rattle.irr_rational.specs.Rational.{ratio}
 use Rattle.irr_token.specs.declared.read.Quotient.{Quotient}
 use Rattle.irr_token.specs.Token.{PlacedNumber, value_of}
-use Rattle.irr_token.specs.Quotient.{WrittenQuotient, with_sign, denominator_value, is_negative, quotient_value}
+use Rattle.irr_token.specs.Quotient.{WrittenQuotient, with_sign, denominator_value, quotient_value}
 use Rattle.irr_token.specs.Reading.{written_quotient, IsReadAs}
 use Rattle.irr_token.specs.Fault.{Limited, AreNotZero, IsFirstZero, AreWithin, IsFirstBeyond, present, present_limited, denominators, limited}
 

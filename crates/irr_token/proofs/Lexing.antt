@@ -5,7 +5,7 @@
 --   IsScanner M trailing     what is asked of the states
 --   IsTextOf M trailing G text     the text is blanks and then a spelling of tokens of G, with no blanks where they must not stand
 --   lexed_recognises     where M tells the token lists of G, the texts of G are recognised
-use Rattle.std.proofs.Common.{◌≡◌, ◌≢◌, refl, sym, ◌∙◌, ap, ap₂, subst, ℕ, zero, suc, ◌<◌, ◌≤◌, ◌+◌, Bool, true, false, List, [], ◌∷◌, ◌++◌, length, append_assoc, append-nil, length-append, Option, None, Some, IfSome, IsTrue, ◌⊎◌, inl, inr, arith, ◌&&◌, ◌||◌, option_and_then, nat_eq, nat_le, if◌then◌else◌, map, lit<}
+use Rattle.std.proofs.Common.{◌≡◌, ◌≢◌, refl, sym, ◌∙◌, ap, subst, ℕ, ◌<◌, ◌≤◌, ◌+◌, Bool, true, false, List, [], ◌∷◌, ◌++◌, length, Option, None, Some, IsTrue, ◌⊎◌, inl, inr, arith, ◌&&◌, ◌||◌, option_and_then, nat_eq, nat_le, if◌then◌else◌, lit<}
 use Rattle.std.specs.Option.{option_map}
 use Rattle.std.specs.Char.{digit_value}
 use Rattle.std.specs.Str.Parse.{AllDigits, IsNumeral}

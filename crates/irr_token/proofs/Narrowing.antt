@@ -14,7 +14,7 @@ use Rattle.irr_rational.specs.Rational.{Rational, ratio}
 use Rattle.irr_rational.specs.Ratio.{AreLowest, entry, ratios}
 use Rattle.irr_rational.proofs.Ratios.{ratio-scale}
 use Rattle.irr_rational.proofs.ListedRatios.{ratios-at}
-use Rattle.irr_space.specs.Operation.{Vector, component}
+use Rattle.irr_space.specs.Operation.{component}
 use Rattle.irr_rat.specs.declared.vec3.Vec3.{Vec3}
 use Rattle.irr_rat.specs.Lowest.{AreThreeLowest}
 use Rattle.irr_rat.specs.VectorMeaning.{vector, vector_of}

@@ -5,18 +5,18 @@
 --   printed-value               its value is a over b
 --   printed-zero, printed-within     its numbers
 --   NoBlanks cs                 no byte of cs is a blank
-use Rattle.std.proofs.Common.{◌≡◌, ◌≢◌, refl, sym, ◌∙◌, ap, ap₂, subst, ℕ, zero, suc, ◌<◌, ◌≤◌, ◌+◌, ◌^◌, ℤ, pos, negsuc, neg_ℤ, Bool, true, false, List, [], ◌∷◌, ◌++◌, length, append_assoc, append-nil, Option, None, Some, nat_eq, if◌then◌else◌, arith}
+use Rattle.std.proofs.Common.{◌≡◌, ◌≢◌, refl, sym, ◌∙◌, ap, ap₂, subst, ℕ, suc, ◌<◌, ◌≤◌, ◌+◌, ◌^◌, ℤ, pos, negsuc, neg_ℤ, Bool, true, false, List, [], ◌∷◌, ◌++◌, length, append_assoc, append-nil, Option, None, Some, nat_eq, if◌then◌else◌, arith}
 use Rattle.std.proofs.lemmas.Bool.Decides.{nat_tests}
 use Rattle.std.specs.Int.RustNames.{unsigned_abs}
 use Rattle.std.specs.Fmt.{decimal, signed_decimal}
-use Rattle.std.specs.Str.Parse.{AllDigits, IsNumeral, digits_value}
+use Rattle.std.specs.Str.Parse.{AllDigits, digits_value}
 use Rattle.std.proofs.lemmas.Fmt.{decimal_is_IsNumeral}
 use Rattle.irr_rational.specs.Rational.{ratio}
 use Rattle.irr_text.specs.NumberText.{fraction_text}
 use Rattle.irr_token.specs.declared.kind.Kind.TheVariants.{Blank, Digit, Mark}
 use Rattle.irr_token.specs.Kinds.{kind_of}
-use Rattle.irr_token.specs.Token.{PlacedNumber, Token, value_of}
-use Rattle.irr_token.specs.Token.Token.{number, mark}
+use Rattle.irr_token.specs.Token.{PlacedNumber, Token}
+use Rattle.irr_token.specs.Token.Token.{number}
 use Rattle.irr_token.specs.Spelling.{AreSpelled, EndsInNoBlank}
 use Rattle.irr_token.specs.Quotient.{WrittenQuotient, over_tokens, quotient_tokens, quotient_value, denominator_value}
 use Rattle.irr_token.specs.Fault.{AreNotZero, AreWithin, present, present_limited, denominators, limited}

@@ -1,14 +1,14 @@
 -- What stands at the front of a fraction, and behind its numerator.
 --   minus_step, plus_step     a sign
 --   over_step                 a slash and a denominator
-use Rattle.std.proofs.Common.{◌≡◌, ◌≢◌, refl, sym, ◌∙◌, ap, subst, ℕ, Bool, true, false, List, [], ◌∷◌, ◌++◌, Option, None, Some, arith}
+use Rattle.std.proofs.Common.{◌≡◌, refl, sym, ◌∙◌, ap, subst, ℕ, Bool, true, false, List, [], ◌∷◌, ◌++◌, Option, None, Some, arith}
 use Rattle.std.specs.Str.Parse.{IsNumeral}
-use Rattle.irr_token.specs.declared.kind.Kind.TheVariants.{Blank, Digit, Mark}
+use Rattle.irr_token.specs.declared.kind.Kind.TheVariants.{Digit, Mark}
 use Rattle.irr_token.specs.Kinds.{kind_of}
 use Rattle.irr_token.specs.Token.{PlacedNumber, Token}
 use Rattle.irr_token.specs.Token.Token.{number, mark}
-use Rattle.irr_token.specs.Spelling.{IsBehind, AreSpelled}
-use Rattle.irr_token.specs.Quotient.{is_negative, sign_byte, sign_tokens, over_tokens}
+use Rattle.irr_token.specs.Spelling.{AreSpelled}
+use Rattle.irr_token.specs.Quotient.{is_negative, sign_tokens, over_tokens}
 use Rattle.irr_token.specs.Reading.{BeginsWith, IsBehindNumber, IsBehindQuotient}
 use Rattle.irr_token.proofs.Lexing.{digit_kind}
 

@@ -2,7 +2,7 @@
 --   WrittenQuotient        the sign, where there is one (true for -), the numerator, and the denominator, where there is one
 --   quotient_tokens q      the tokens of q
 --   quotient_value q       the rational number that q writes
-use Rattle.std.specs.Prelude.{ℕ, ℤ, pos, neg_ℤ, Bool, true, false, List, [], ◌∷◌, ◌++◌, Option, None, Some, if◌then◌else◌}
+use Rattle.std.specs.Prelude.{ℕ, ℤ, pos, neg_ℤ, Bool, false, List, [], ◌∷◌, ◌++◌, Option, None, Some, if◌then◌else◌}
 use Rattle.irr_rational.specs.Rational.{Rational, ratio}
 use Rattle.irr_token.specs.Token.{PlacedNumber, Token, value_of}
 use Rattle.irr_token.specs.Token.Token.{number, mark}

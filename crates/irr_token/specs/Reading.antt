@@ -5,7 +5,7 @@
 --   IsBehindQuotient ts, IsBehindNumber ts   the tokens ts do not go on with a fraction, or a number, before them
 --   BeginsWith b text, BeginsWithBlank text      the first byte of the text is b, or a blank
 --   HasDigits q           the numbers of q are written in digits
-use Rattle.std.specs.Prelude.{ℕ, ◌≡◌, ◌≢◌, List, [], ◌∷◌, Option, None, Some, IfSome}
+use Rattle.std.specs.Prelude.{ℕ, ◌≡◌, ◌≢◌, List, [], ◌∷◌, Some, IfSome}
 use Rattle.std.specs.Str.Parse.{AllDigits}
 use Rattle.std.specs.Option.{option_map}
 use Rattle.irr_token.specs.declared.read.Number.{Number}

@@ -1,5 +1,5 @@
 -- In lowest terms the numerators fit where they did before, and the denominator is the least one.
-use Rattle.std.proofs.Common.{◌≡◌, sym, ◌∙◌, subst, ℤ, pos, get_or, FitsSigned}
+use Rattle.std.proofs.Common.{sym, ◌∙◌, subst, ℤ, pos, get_or}
 use Rattle.irr_algebra.specs.Fin.{Fin}
 use Rattle.irr_rational.specs.Ratio.{AreLowest, entry}
 use Rattle.irr_rational.proofs.ListedRatios.{ratios-at}

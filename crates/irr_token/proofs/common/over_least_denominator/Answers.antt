@@ -1,5 +1,5 @@
 -- Each fraction over the product of the denominators.
-use Rattle.std.proofs.Common.{◌≡◌, sym, ◌∙◌, ap, ℕ, ◌≤◌, ℤ, pos, ◌*ℤ◌, FitsSigned, to_z, of_z, unsigned_abs, arith}
+use Rattle.std.proofs.Common.{sym, ◌∙◌, ◌≤◌, ℤ, FitsSigned, to_z, of_z, unsigned_abs, arith}
 use Rattle.std.specs.Int.{w64, w128}
 use Rattle.std.proofs.lemmas.Int.{fits_signed_from_abs}
 use Rattle.irr_token.proofs.Narrowing.{numerator_of, wide-fits, three-fits, three-ratios, components-of, AreOver, are_over}

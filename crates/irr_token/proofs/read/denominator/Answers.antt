@@ -1,4 +1,4 @@
-use Rattle.std.proofs.Common.{true, rules}
+use Rattle.std.proofs.Common.{rules}
 use Rattle.irr_token.specs.Reading.{placed_number, BeginsWith}
 use Rattle.irr_token.proofs.Signs.{over_step}
 use Rattle.irr_token.proofs.read.denominator.Goals as goal

@@ -1,5 +1,5 @@
 -- The digits at the front are those of the number, as no digit follows.
-use Rattle.std.proofs.Common.{◌≡◌, refl, sym, ap, ℕ, List}
+use Rattle.std.proofs.Common.{◌≡◌, sym, ℕ, List}
 use Rattle.irr_token.specs.Token.{PlacedNumber}
 use Rattle.irr_token.proofs.Blanks.{number_step}
 use Rattle.irr_token.proofs.read.front_number.Goals as goal

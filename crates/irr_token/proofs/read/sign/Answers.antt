@@ -1,4 +1,4 @@
-use Rattle.std.proofs.Common.{true, rules}
+use Rattle.std.proofs.Common.{rules}
 use Rattle.irr_token.specs.Reading.{BeginsWith}
 use Rattle.irr_token.proofs.Signs.{minus_step, plus_step}
 use Rattle.irr_token.proofs.read.sign.Goals as goal
