@@ -8,6 +8,7 @@ ghost use Rattle.irr_token.specs.Token.Token.{mark};
 ghost use Rattle.irr_token.specs.Spelling.{AreSpelled};
 ghost use Rattle.irr_token.specs.Reading.{HasDigits};
 ghost use Rattle.irr_token.specs.Fault.{AreNotZero, IsFirstZero, AreWithin, IsFirstBeyond};
+ghost use Rattle.irr_kvec.specs.Centrings.{IsWithinLimits};
 ghost use Rattle.irr_kvec.specs.WaveMeaning.{wave_vector};
 ghost use Rattle.irr_kvec.specs.WrittenWave.{WrittenWave, IsSpelling, IsWave};
 ghost use Rattle.irr_kvec.specs.WaveParts.{written_wave, AreParts};
@@ -39,6 +40,7 @@ pub fn read_wave(text: &[u8], limit: u32) -> Result<Wave, WaveError>
     ensures wave { IfOk result (λ k. IsWave text.now) }
     ensures read { (w : WrittenWave) → IsSpelling w text.now → IfOk result (λ k. IsWritten limit w (wave_vector k)) }
     ensures within { IfOk result (λ k. k.den ≤ DENOMINATOR_LIMIT) }
+    ensures limits { IfOk result IsWithinLimits }
     ensures fault { IfErr result (λ e. IsFault limit text.now e) }
 {
     if let Err(place) = check_shape(text) {
@@ -126,6 +128,7 @@ fn wave_of_parts(parts: &Parts<'_>, limit: u64) -> Option<Wave>
     requires limit { limit ≤ 1000000 }
     ensures value { IfSome result (λ k. IsValue (written_wave parts.now) (wave_vector k)) }
     ensures within { IfSome result (λ k. k.den ≤ DENOMINATOR_LIMIT) }
+    ensures limits { IfSome result IsWithinLimits }
     ensures none { IsNone result → ¬ (HasCommonDenominator (written_wave parts.now)) }
 {
     let x = value_of_quotient(&parts.x, limit);

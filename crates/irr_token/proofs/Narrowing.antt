@@ -4,15 +4,17 @@
 --   scaled-twice        a fraction over a multiple of its denominator
 --   over-x, over-y, over-z     the product of three denominators
 --   components-of       the components of a vector over a denominator
-use Rattle.std.proofs.Common.{◌≡◌, sym, ◌∙◌, ap, subst, ℕ, suc, ◌<◌, ◌≤◌, ◌*◌, List, [], ◌∷◌, get_or, ℤ, pos, ◌*ℤ◌, FitsSigned, to_z, of_z, arith, mul-pos, Option, None, Some, IfSome}
+--   small-of            and the size of its numerators
+use Rattle.std.proofs.Common.{◌≡◌, sym, ◌∙◌, ap, subst, ℕ, suc, ◌<◌, ◌≤◌, ◌*◌, List, [], ◌∷◌, get_or, ℤ, pos, ◌*ℤ◌, FitsSigned, to_z, of_z, arith, mul-pos, Option, None, Some, IfSome, unsigned_abs, ◌^◌}
 use Rattle.std.specs.Int.{w64, w128}
-use Rattle.std.proofs.lemmas.Int.{to_z-of_z}
+use Rattle.std.proofs.lemmas.Int.{to_z-of_z, unsigned_abs-mul}
 use native.Mathlib.Nat as Nat
+use Rattle.std.proofs.Math.Nat.{mul-le-mul_left}
 use Rattle.irr_algebra.specs.Fin.{Fin, to_nat}
 use Rattle.irr_algebra.specs.Fin.Fin.{first, next}
 use Rattle.irr_rational.specs.Rational.{Rational, ratio}
 use Rattle.irr_rational.specs.Ratio.{AreLowest, entry, ratios}
-use Rattle.irr_rational.proofs.Ratios.{ratio-scale}
+use Rattle.irr_rational.proofs.Ratios.{ratio-scale, cross_of_ratio}
 use Rattle.irr_rational.proofs.ListedRatios.{ratios-at}
 use Rattle.irr_space.specs.Operation.{component}
 use Rattle.irr_rat.specs.declared.vec3.Vec3.{Vec3}
@@ -93,3 +95,20 @@ are_over a b c x y z p q r d e f hp hq hr ea eb ec ed ee ef = record {
   where
     whole : d ≡ p * (q * r)
     whole = ed ∙ ap (λ n. p * n) (ee ∙ ap (λ n. q * n) ef)
+
+-- a numerator over the least denominator is at most the numerator that is written times this denominator
+over-small : (a n : ℤ) (d b : ℕ) → 0 < b → 0 < d → d ≤ 100000 → unsigned_abs n ≤ 1000000 → ratio a d ≡ ratio n b → unsigned_abs a ≤ 10 ^ 11
+over-small a n d b hb hd le small e =
+    let cross : unsigned_abs a * b ≡ unsigned_abs n * d = sym (unsigned_abs-mul a (pos b)) ∙ ap unsigned_abs (cross_of_ratio a n d b hd hb e) ∙ unsigned_abs-mul n (pos d) in
+    let most : unsigned_abs n * d ≤ 1000000 * 100000 = Nat.mul-le-mul small le in
+    let least : unsigned_abs a * 1 ≤ unsigned_abs a * b = mul-le-mul_left (unsigned_abs a) hb in
+    omega arith
+
+pub small-of : (r : Option Vec3) (x y z : ℤ) (p q s : ℕ) → IfSome r (λ v. v.den ≤ 100000) → unsigned_abs x ≤ 1000000 → unsigned_abs y ≤ 1000000 → unsigned_abs z ≤ 1000000 → 0 < p → 0 < q → 0 < s
+    → IfSome r (λ v. (component (vector v) first ≡ ratio x p) × (component (vector v) (next first) ≡ ratio y q) × (component (vector v) (next (next first)) ≡ ratio z s))
+    → IfSome r (λ v. (i : Fin 3) → unsigned_abs (entry v.num i) ≤ 10 ^ 11)
+small-of None x y z p q s w hx hy hz hp hq hs e = tt
+small-of (Some v) x y z p q s w hx hy hz hp hq hs e = each_of_three (λ i. unsigned_abs (entry v.num i) ≤ 10 ^ 11)
+    (over-small (entry {n = 3} v.num first) x v.den p hp v.lowest.positive w hx (sym (component-vector_of v.num v.den first) ∙ e.0))
+    (over-small (entry {n = 3} v.num (next first)) y v.den q hq v.lowest.positive w hy (sym (component-vector_of v.num v.den (next first)) ∙ e.1))
+    (over-small (entry {n = 3} v.num (next (next first))) z v.den s hs v.lowest.positive w hz (sym (component-vector_of v.num v.den (next (next first))) ∙ e.2))

@@ -85,6 +85,7 @@ pub fn over_least_denominator(x: Value, y: Value, z: Value) -> Option<Vec3>
     ensures components { IfSome result (λ v. (component (vector v) first ≡ ratio x.num x.den)
         × (component (vector v) (next first) ≡ ratio y.num y.den)
         × (component (vector v) (next (next first)) ≡ ratio z.num z.den)) }
+    ensures small { IfSome result (λ v. (i : Fin 3) → unsigned_abs (entry v.num i) ≤ 10 ^ 11) }
     ensures none { IsNone result → (num : Fin 3 → ℤ) (den : ℕ) → AreLowest num den → ratio (num first) den ≡ ratio x.num x.den
         → ratio (num (next first)) den ≡ ratio y.num y.den → ratio (num (next (next first))) den ≡ ratio z.num z.den → DENOMINATOR_LIMIT < den }
 {

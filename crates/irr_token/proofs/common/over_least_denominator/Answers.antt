@@ -2,7 +2,7 @@
 use Rattle.std.proofs.Common.{sym, ◌∙◌, ◌≤◌, ℤ, FitsSigned, to_z, of_z, unsigned_abs, arith}
 use Rattle.std.specs.Int.{w64, w128}
 use Rattle.std.proofs.lemmas.Int.{fits_signed_from_abs}
-use Rattle.irr_token.proofs.Narrowing.{numerator_of, wide-fits, three-fits, three-ratios, components-of, AreOver, are_over}
+use Rattle.irr_token.proofs.Narrowing.{numerator_of, wide-fits, three-fits, three-ratios, components-of, small-of, AreOver, are_over}
 use Rattle.irr_token.proofs.common.over_least_denominator.Goals as goal
 
 pub narrowed-requires-clause-fits : goal.narrowed-requires-clause-fits
@@ -32,3 +32,8 @@ returns-clause-components c = let o = over c in components-of c.narrowed.result 
 pub returns-clause-none : goal.returns-clause-none
 returns-clause-none c = λ is num den low ex ey ez. let o = over c in
     c.narrowed.ensures.none is num den low (three-ratios num den _ _ _ c.product-2.result (ex ∙ sym o.at_x) (ey ∙ sym o.at_y) (ez ∙ sym o.at_z))
+
+pub returns-clause-small : goal.returns-clause-small
+returns-clause-small c = let o = over c in small-of c.narrowed.result c.args.x.num c.args.y.num c.args.z.num c.args.x.den c.args.y.den c.args.z.den c.narrowed.ensures.within
+    c.requires.nums.0 c.requires.nums.1 c.requires.nums.2 c.requires.positive.0 c.requires.positive.1 c.requires.positive.2
+    (components-of c.narrowed.result _ _ _ c.product-2.result _ _ _ c.narrowed.ensures.same o.at_x o.at_y o.at_z)
