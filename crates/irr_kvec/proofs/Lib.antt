@@ -8,3 +8,6 @@ pub mod LeastFactors
 pub mod GroupLattices
 pub mod Actions
 pub mod CentringLists
+pub mod WaveRecogniser
+pub mod WaveAnswers
+pub mod PrintedWaves

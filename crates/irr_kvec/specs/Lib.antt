@@ -1,2 +1,6 @@
 pub mod WaveMeaning
 pub mod Centrings
+pub mod WrittenWave
+pub mod WaveFront
+pub mod WaveFault
+pub mod WaveParts

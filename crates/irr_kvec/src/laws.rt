@@ -1,4 +1,7 @@
 // From the lattice that centrings give to the group whose centrings they are.
+ghost use Rattle.irr_text.specs.WaveText.{wave_text, IsWithinLimits};
+ghost use Rattle.irr_token.specs.declared.faults.TheConstants.{DENOMINATOR_LIMIT};
+ghost use Rattle.irr_kvec.specs.WaveFault.{IsTextOf};
 ghost use Rattle.std.specs.Prelude.{ℕ, ◌↔◌, ◌≤◌, List, length};
 ghost use Rattle.irr_space.specs.Operation.{Operation, WaveVector};
 ghost use Rattle.irr_space.specs.SpaceGroup.{Generated};
@@ -20,4 +23,10 @@ pub fn wave_vectors_of_group()
         → IsReduced (LatticeOf cs) k r → IsReduced (Generated gens) k r }
     ensures period { (gens : List Operation) (cs : List Vec3) → AreCentrings (Generated gens) cs → (k : WaveVector) (q : ℕ)
         → IsPeriod (LatticeOf cs) k q → IsPeriod (Generated gens) k q }
+{}
+
+/// The printed form of a wave vector whose numbers are within the limits is a text of that wave vector, with
+/// no fault: so it is read again as the same wave vector.
+pub fn printed_waves_are_read()
+    ensures { (k : WaveVector) → IsWithinLimits DENOMINATOR_LIMIT k → IsTextOf (wave_text k) k }
 {}

@@ -5,7 +5,7 @@ ghost use Rattle.irr_seitz.specs.Rotation.{determinant, IsWithin};
 ghost use Rattle.irr_seitz.specs.OperationMeaning.{operation};
 ghost use Rattle.irr_kvec.specs.Centrings.{IsCentringList, IsWithinLimits};
 
-use crate::{Wave, act, equivalent, period, reduced};
+use crate::{Wave, WaveError, act, equivalent, period, printed_waves_are_read, read_wave, reduced};
 use irr_rat::Vec3;
 use irr_seitz::Op;
 
@@ -169,4 +169,55 @@ fn wave_vectors_of_a_finer_translation(rt: HostRuntime) {
 #[test]
 fn a_threefold_axis_turns_wave_vectors(rt: HostRuntime) {
     assert!(rt; acted(&threefold(), &wave([3, 2, 0], 6)) == Some(([0, 3, 2], 6)));
+}
+
+// The numerators and the denominator of the wave vector that a text writes.
+fn read(text: &str, limit: u32) -> Result<([i64; 3], u32), WaveError>
+    requires { limit ≤ 1000000 }
+{
+    let wave = read_wave(text.as_bytes(), limit)?;
+    let num = wave.num;
+    Ok((num, wave.den))
+}
+
+#[test]
+fn texts_of_wave_vectors_are_read(rt: HostRuntime) {
+    printed_waves_are_read();
+    for (text, num, den) in [
+        ("0,0,0", [0, 0, 0], 1),
+        ("0,1/2,-1/3", [0, 3, -2], 6),
+        ("+1 / 2 ,\t0, -00/007", [1, 0, 0], 2),
+        ("- 3/6,4/ 2,1", [-1, 4, 2], 2),
+        ("50000/100000,1/3,100000", [3, 2, 600_000], 6),
+    ] {
+        assert!(rt; read(text, 100_000) == Ok((num, den)), "{text}");
+    }
+    assert!(rt; read("400000,0,0", 400_000) == Ok(([400_000, 0, 0], 1)));
+}
+
+// 1,000 and 1,001 have no common divisor.
+#[test]
+fn texts_that_write_no_wave_vector_have_a_first_fault(rt: HostRuntime) {
+    for (text, error) in [
+        ("", WaveError::Shape(0)),
+        (" 0,0,0", WaveError::Shape(0)),
+        ("x,0,0", WaveError::Shape(0)),
+        ("+-1,0,0", WaveError::Shape(1)),
+        ("1 2,0,0", WaveError::Shape(2)),
+        ("1/,0,0", WaveError::Shape(2)),
+        ("0,0", WaveError::Shape(3)),
+        ("0,0,0,0", WaveError::Shape(5)),
+        ("0,0,0 ", WaveError::Shape(6)),
+        ("0,0,1/2 ", WaveError::Shape(7)),
+        ("1/0,1/0,x", WaveError::Shape(8)),
+        ("1/0,1/0,0", WaveError::Zero(2)),
+        ("0,1/ 00,5", WaveError::Zero(5)),
+        ("100001,0,1/0", WaveError::Zero(11)),
+        ("100001,200000,0", WaveError::Range(0)),
+        ("0,1/100001,100001", WaveError::Range(4)),
+        ("0,\t0,-100001", WaveError::Range(6)),
+        ("1/1000,1/1001,0", WaveError::Range(15)),
+    ] {
+        assert!(rt; read(text, 100_000) == Err(error), "{text}");
+    }
 }

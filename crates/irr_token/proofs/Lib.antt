@@ -1,0 +1,6 @@
+pub mod Lexing
+pub mod Blanks
+pub mod Signs
+pub mod Narrowing
+pub mod FirstFaults
+pub mod PrintedQuotients
