@@ -1,4 +1,5 @@
 -- Texts one after another: over places, over numbers, and over lists.
+--   plus_zero, moved_suc, one_plus     sums with 0 and with the next number
 --   pieces-below          pieces over places are those over numbers
 --   pieces_below-rows     r rows of c pieces are r * c pieces
 --   pieces_below-list     pieces of the items of a list
@@ -39,19 +40,19 @@ unfolding pieces_below
 pieces_below-same zero f g e = refl
 pieces_below-same (suc n) f g e = ap₂ (λ x y. x ++ y) (pieces_below-same n f g e) (e n)
 
-plus_zero : (m : ℕ) → m + 0 ≡ m
+pub plus_zero : (m : ℕ) → m + 0 ≡ m
 plus_zero m = omega arith
 
 plus_suc : (m n : ℕ) → m + suc n ≡ suc (m + n)
 plus_suc m n = omega arith
 
-moved_suc : (m n : ℕ) → m + suc n ≡ suc m + n
+pub moved_suc : (m n : ℕ) → m + suc n ≡ suc m + n
 moved_suc m n = omega arith
 
 plus_one : (n : ℕ) → suc n ≡ n + 1
 plus_one n = omega arith
 
-one_plus : (n : ℕ) → suc n ≡ 1 + n
+pub one_plus : (n : ℕ) → suc n ≡ 1 + n
 one_plus n = omega arith
 
 pieces_below-add : (m n : ℕ) (f : ℕ → List ℕ) → pieces_below (m + n) f ≡ pieces_below m f ++ pieces_below n (λ k. f (m + k))
