@@ -1,3 +1,5 @@
 pub mod Content
-pub mod Printed
 pub mod OfList
+pub mod Printed
+pub mod ReportLines
+pub mod PrintedReport

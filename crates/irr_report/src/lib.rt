@@ -1,11 +1,13 @@
 //! Reports of small representations as text.
 #![tactic(auto)]
 
+mod laws;
 mod lines;
 mod print;
 mod report;
 
 pub use irr_memory::Memory;
+pub use laws::printed_reports_have_lines;
 pub use print::print_report;
 pub use report::{RepText, Report};
 

@@ -2,7 +2,7 @@ ghost use Rattle.std.specs.Prelude.{◌≡◌, ◌<◌, All, IsTrue, ◌↔◌, 
 ghost use Rattle.irr_mat.specs.Entries.{first_order};
 ghost use Rattle.irr_report.specs.Content.{FitsTogether, HasPlaces};
 
-use crate::{Memory, RepText, Report, print_report};
+use crate::{Memory, RepText, Report, print_report, printed_reports_have_lines};
 use irr_cyc::{Dense, Order, Scalar};
 use irr_kvec::Wave;
 use irr_mat::Mat;
@@ -160,6 +160,7 @@ const UNIT: [[i16; 3]; 3] = [[1, 0, 0], [0, 1, 0], [0, 0, 1]];
 // The group of no generators at 0,0,0.
 #[test]
 fn one_operation(rt: HostRuntime) -> Result<(), Fail> {
+    printed_reports_have_lines();
     let order = Order::new(rt.alloc(), 1)?;
     let ops = [operation(UNIT, [0, 0, 0], 1)];
     let report = report_of_powers::<Dense>(rt.alloc(), wave([0, 0, 0], 1), &order, &ops, &[&[0]])?;
