@@ -2,11 +2,11 @@
 --   co_group_of             operations that are picked give it
 --   co_group_unique         it is one number
 --   co_group_positive       it is not 0
-use Rattle.std.proofs.Common.{◌≡◌, sym, ◌∙◌, ap, subst, refl, ℕ, zero, suc, ◌<◌, ◌≤◌, ◌⊎◌, inl, inr, arith}
+use Rattle.std.proofs.Common.{◌≡◌, sym, ◌∙◌, ap, subst, refl, ℕ, zero, suc, ◌<◌, ◌⊎◌, inl, inr, arith}
 use Rattle.std.proofs.lemmas.Int.{ints}
 use Rattle.irr_algebra.specs.Fin.{Fin, to_nat}
 use Rattle.irr_algebra.proofs.Indices.{from_nat, to_nat-from_nat, to_nat-lt, to_nat_inj}
-use Rattle.irr_space.specs.Operation.{Operation, WaveVector, identity, turned}
+use Rattle.irr_space.specs.Operation.{Operation, WaveVector, identity}
 use Rattle.irr_space.specs.CanonicalOperation.{IsNumbering, IsNumberedBefore, IsRotationBelow}
 use Rattle.irr_space.specs.Star.{IsInLittleGroup}
 use Rattle.irr_cocycle.specs.SpaceGroupLaws.{IsGroup, HasCanonical}

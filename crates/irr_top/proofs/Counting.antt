@@ -3,17 +3,17 @@
 --   kept_one, kept_none     one operation more: it keeps the wave vector, or not
 --   nothing_left            past the last one
 --   counted_all             the count is the number of elements of the little co-group
-use Rattle.std.proofs.Common.{◌≡◌, refl, sym, ◌∙◌, ap, subst, ℕ, zero, suc, ◌+◌, ◌<◌, ◌≤◌, ◌↔◌, List, [], ◌∷◌, length, get_or, arith}
+use Rattle.std.proofs.Common.{◌≡◌, sym, ◌∙◌, ap, subst, ℕ, suc, ◌+◌, ◌<◌, ◌≤◌, ◌↔◌, List, [], ◌∷◌, length, get_or, arith}
 use Rattle.std.specs.Prelude.{Bool, IsTrue}
 use Rattle.std.proofs.lemmas.List.{get_or_default}
-use Rattle.irr_algebra.specs.Fin.{Fin, to_nat}
+use Rattle.irr_algebra.specs.Fin.{Fin}
 use Rattle.irr_algebra.proofs.Indices.{from_nat, to_nat-from_nat}
-use Rattle.irr_space.specs.Operation.{Operation, WaveVector, turned}
+use Rattle.irr_space.specs.Operation.{WaveVector, turned}
 use Rattle.irr_space.specs.Reciprocal.{AreEquivalent}
 use Rattle.irr_space.specs.Star.{IsInLittleGroup}
 use Rattle.irr_seitz.specs.OperationMeaning.{operation}
 use Rattle.irr_seitz.specs.declared.op.Op.{Op}
-use Rattle.irr_close.specs.Canonical.{AreCanonical, numbered}
+use Rattle.irr_close.specs.Canonical.{numbered}
 use Rattle.irr_close.specs.declared.group.Group.{Group}
 use Rattle.irr_top.specs.CoGroup.{HasCoGroup}
 use Rattle.irr_top.specs.GroupOf.{IsGroupOf, group_of}

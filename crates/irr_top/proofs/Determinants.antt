@@ -3,7 +3,7 @@
 --   rows_mul                its value at rows that are mixed of three rows
 --   determinant-mul         the determinant of a product is the product of the determinants
 --   unimodular_of_inverse   a rotation with an inverse has the determinant 1 or -1
-use Rattle.std.proofs.Common.{◌≡◌, sym, refl, ◌∙◌, ap, ap₂, subst, ℕ, ℤ, pos, ◌*◌, ◌*ℤ◌, unsigned_abs}
+use Rattle.std.proofs.Common.{◌≡◌, sym, refl, ◌∙◌, ap, ap₂, subst, pos, ◌*◌, ◌*ℤ◌, unsigned_abs}
 use Rattle.std.specs.Int.{◌∣◌}
 use Rattle.std.proofs.lemmas.Int.{unsigned_abs-mul}
 use native.Mathlib.Nat as Nat

@@ -4,19 +4,18 @@
 --   order_of                the order of a wave vector
 --   kept                    the test of an operation by where it carries the wave vector
 --   order_at, numbering_at  equivalent wave vectors have one order, and one little group
-use Rattle.std.proofs.Common.{◌≡◌, sym, ◌∙◌, ap, ap₂, subst, ℕ, ◌<◌, ◌≤◌, ◌*◌, ◌↔◌, List, pos, length, get_or, unsigned_abs}
-use Rattle.std.specs.List.{All, HoldsAt}
+use Rattle.std.proofs.Common.{◌≡◌, sym, ◌∙◌, ap, ap₂, subst, ℕ, ◌*◌, ◌↔◌, List, pos, length, get_or, unsigned_abs}
+use Rattle.std.specs.List.{All}
 use Rattle.std.specs.Prelude.{IsTrue, Bool}
 use Rattle.irr_algebra.specs.Fin.{Fin}
-use Rattle.irr_algebra.specs.Matrix.{◌·◌, ◌⊖◌, unit}
+use Rattle.irr_algebra.specs.Matrix.{◌⊖◌}
 use Rattle.irr_algebra.specs.Ring.{whole}
 use Rattle.irr_algebra.proofs.Rings.{ring_laws}
-use Rattle.irr_number.specs.Integers.{integers}
 use Rattle.irr_rational.specs.Integer.{integer}
 use Rattle.irr_rational.specs.Rational.{Rational, rationals, IsWhole}
 use Rattle.irr_rational.proofs.WholeNumbers.{whole-integer, whole-add, whole-mul}
 use Rattle.irr_space.specs.Operation.{Operation, WaveVector, Vector, dot, turned, IsInverse}
-use Rattle.irr_space.specs.SpaceGroup.{Generated, IsExponent}
+use Rattle.irr_space.specs.SpaceGroup.{IsExponent}
 use Rattle.irr_space.specs.SpaceGroup.Generated.{one, product, inverse}
 use Rattle.irr_space.specs.Reciprocal.{IsReciprocal, AreEquivalent, IsPeriod, IsOrder, IsReduced, times}
 use Rattle.irr_space.specs.CanonicalOperation.{IsNumbering}

@@ -1,8 +1,8 @@
 -- The bytes of an input that was read.
 --   all_read       bytes that were read to the end are all that the source had
 --   too_many       more bytes came than the limit, so there are more
-use Rattle.std.proofs.Common.{◌≡◌, sym, ◌∙◌, ap, subst, refl, ℕ, ◌<◌, ◌≤◌, ◌+◌, ◌++◌, [], List, Option, Some, None, length, arith, length-append}
-use Rattle.irr_io.specs.Told.{Takes, TakesAll, Took, IsAtEnd}
+use Rattle.std.proofs.Common.{◌≡◌, ◌∙◌, ap, refl, ℕ, ◌<◌, ◌+◌, [], List, Option, Some, None, length, arith, length-append}
+use Rattle.irr_io.specs.Told.{TakesAll, Took, IsAtEnd}
 use Rattle.irr_top.specs.Asked.{IsAllOf}
 
 pub all_read : (old new : Option (List ℕ)) (bytes : List ℕ) → TakesAll old new bytes → IsAllOf old bytes

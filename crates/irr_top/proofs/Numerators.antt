@@ -4,7 +4,7 @@
 --   wave_limits           so the calls on wave vectors take it
 --   image_limits          and that to which a rotation carries it
 --   readable_generator    an operation that can be read is a generator
-use Rattle.std.proofs.Common.{◌≡◌, sym, ◌∙◌, ap, ap₂, subst, ℕ, ◌≤◌, ◌<◌, ◌*◌, ◌^◌, ℤ, pos, ◌*ℤ◌, unsigned_abs, arith}
+use Rattle.std.proofs.Common.{◌≡◌, sym, ◌∙◌, ap, ℕ, ◌≤◌, ◌<◌, ◌*◌, ◌^◌, ℤ, pos, ◌*ℤ◌, unsigned_abs, arith}
 use Rattle.std.specs.List.{All}
 use Rattle.std.specs.Prelude.{List}
 use Rattle.std.proofs.lemmas.Int.{unsigned_abs-mul}

@@ -11,7 +11,7 @@ use Rattle.irr_close.specs.Limits.{operations}
 use Rattle.irr_close.specs.StandsFor.{IsRefusal, IsAccepted}
 use Rattle.irr_close.specs.declared.CloseError.{CloseError}
 use Rattle.irr_close.specs.declared.CloseError.TheVariants.{Rotations as many_rotations, Denominator as large_denominator, Centrings as many_centrings, Memory as no_memory}
-use Rattle.irr_top.specs.Command.{IsSmall, IsCommand, IsFaulty}
+use Rattle.irr_top.specs.Command.{IsCommand, IsFaulty}
 use Rattle.irr_top.specs.Generators.{AreGenerators, SpellsGenerators, IsFaultyLine}
 use Rattle.irr_top.specs.CoGroup.{HasCoGroup}
 use Rattle.irr_top.specs.GroupOf.{group_of}

@@ -1,21 +1,19 @@
 -- What an outcome says.
 --   asked_text            what is asked for has a text
 --   outcome_answers, outcome_read_fault, outcome_write_fault, outcome_memory, outcome_end, outcome_asked    the clauses of `run`
-use Rattle.std.proofs.Common.{◌≡◌, sym, ◌∙◌, ap, subst, refl, ℕ, ◌⊎◌, inl, inr, Option, Some, None, List, length}
-use Rattle.std.specs.Prelude.{⊤}
-use Rattle.std.specs.Io.{StartsWith}
-use Rattle.irr_io.specs.Count.{Rose, CountsAtMost}
-use Rattle.irr_io.specs.Told.{Gains, Gained, IsAtEnd}
+use Rattle.std.proofs.Common.{◌≡◌, sym, subst, refl, ℕ, ◌⊎◌, inl, inr, Option, Some, List}
+use Rattle.irr_io.specs.Count.{Rose}
+use Rattle.irr_io.specs.Told.{IsAtEnd}
 use Rattle.irr_top.specs.Command.{IsCommand, IsFaulty}
 use Rattle.irr_top.specs.Asked.{Asks, IsAllOf}
 use Rattle.irr_top.specs.Asked.Asks.{usage, too_long, faulty_line, rotations, denominator, centrings, order_too_large, co_group, report}
 use Rattle.irr_top.specs.Answered.{HasText, Answers, CutOff, Streams}
-use Rattle.irr_top.specs.Ended.{Ended, Serves}
+use Rattle.irr_top.specs.Ended.{Ended}
 use Rattle.irr_top.specs.Ended.Ended.{whole, cut_off, no_memory}
 use Rattle.irr_top.specs.Outcome.{Outcome}
 use Rattle.irr_top.specs.Outcome.Outcome.{served, read_fault, no_memory as without_memory}
 use Rattle.irr_top.specs.declared.status.Status.{Status}
-use Rattle.irr_top.specs.declared.status.Status.TheVariants.{Done, Usage, BadInput, TooLarge, ReadFault, WriteFault, Memory}
+use Rattle.irr_top.specs.declared.status.Status.TheVariants.{Done, Usage, ReadFault, WriteFault, Memory}
 use Rattle.irr_top.proofs.OneAnswer.{asked_status}
 
 pub asked_text : {words : List (List ℕ)} {bytes text : List ℕ} {s : Status} → Asks words bytes s text → HasText s

@@ -7,7 +7,7 @@ use Rattle.std.proofs.Common.{◌≡◌, refl, sym, ◌∙◌, ap, ap₂, subst,
 use Rattle.std.specs.List.{All}
 use Rattle.std.specs.Int.{◌∣◌}
 use Rattle.std.proofs.lemmas.List.Elements.{All-cons, All-head, All-tail}
-use Rattle.irr_space.specs.Operation.{Operation, Vector}
+use Rattle.irr_space.specs.Operation.{Operation}
 use Rattle.irr_rat.specs.VectorMeaning.{vector_of}
 use Rattle.irr_rat.proofs.CommonDenominators.{lowest_below}
 use Rattle.irr_seitz.specs.OperationMeaning.{operation}

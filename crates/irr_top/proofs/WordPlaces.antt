@@ -6,16 +6,15 @@
 --   faulty_missing, faulty_second  there is no second word, or it is no wave vector
 --   faulty_third               there is a third word
 --   none_at .. third_at        the same of words that are known to be these
-use Rattle.std.proofs.Common.{◌≡◌, ◌≢◌, refl, sym, ◌∙◌, ap, subst, ℕ, zero, suc, ◌<◌, ◌≤◌, ℤ, pos, List, [], ◌∷◌, ◌++◌, length, take, arith}
+use Rattle.std.proofs.Common.{◌≡◌, ◌≢◌, refl, sym, ◌∙◌, ap, subst, ℕ, zero, suc, ◌≤◌, ℤ, pos, List, [], ◌∷◌, ◌++◌, length, take, arith}
 use Rattle.std.specs.Prelude.{codes}
-use Rattle.std.specs.Int.RustNames.{unsigned_abs}
 use native.Mathlib.Nat as Nat
 use Rattle.irr_algebra.specs.Fin.{Fin, to_nat}
 use Rattle.irr_algebra.specs.Fin.Fin.{first, next}
 use Rattle.irr_grammar.specs.ShapePlace.{BeginsIn}
 use Rattle.irr_grammar.proofs.ShapePlaces.{place_unique}
 use Rattle.irr_rational.specs.Rational.{ratio}
-use Rattle.irr_rational.specs.Ratio.{AreLowest, IsLowest, entry}
+use Rattle.irr_rational.specs.Ratio.{IsLowest}
 use Rattle.irr_rational.proofs.ListedRatios.{ratios-at}
 use Rattle.irr_space.specs.Operation.{WaveVector, wave_component}
 use Rattle.irr_text.specs.WaveText.{wave_text, IsWithinLimits}

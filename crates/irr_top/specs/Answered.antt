@@ -3,7 +3,7 @@
 --   HasText s                              a status that comes with a text: Done, and each refusal that has a line
 --   Answers words io s                     the words and all bytes of the input, where they are told, ask for s, and its text was written
 --   CutOff words io                        a front of the text that they ask for was written
-use Rattle.std.specs.Prelude.{ℕ, ◌≡◌, ⊤, ◌⊎◌, Option, List, length}
+use Rattle.std.specs.Prelude.{ℕ, ⊤, Option, List, length}
 use Rattle.std.specs.Io.{StartsWith}
 use Rattle.irr_io.specs.Count.{CountsAtMost}
 use Rattle.irr_io.specs.Told.{Gains, Gained}

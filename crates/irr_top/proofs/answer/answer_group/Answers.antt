@@ -2,7 +2,6 @@
 use Rattle.std.proofs.Common.{subst, ◌<◌, ◌≤◌, arith}
 use Rattle.irr_kvec.specs.WaveMeaning.{wave_vector}
 use Rattle.irr_top.specs.RefusalText.{refusal_text}
-use Rattle.irr_top.specs.Asked.{order_limit}
 use Rattle.irr_top.specs.Asked.Asks.{order_too_large, co_group}
 use Rattle.irr_top.specs.Ended.Replies.{serves}
 use Rattle.irr_top.specs.declared.status.Status.TheVariants.{TooLarge}

@@ -1,5 +1,5 @@
 -- What is answered on an input.
-use Rattle.std.proofs.Common.{sym, subst, refl, ℕ, List}
+use Rattle.std.proofs.Common.{sym, subst, refl, List}
 use Rattle.std.specs.List.{All}
 use Rattle.irr_seitz.specs.OperationMeaning.{operation}
 use Rattle.irr_seitz.specs.declared.op.Op.{Op}

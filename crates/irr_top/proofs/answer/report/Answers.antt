@@ -1,5 +1,5 @@
 -- The report is written, or memory was wanting.
-use Rattle.std.proofs.Common.{◌≡◌, sym, ◌∙◌, subst, refl, ℕ, List}
+use Rattle.std.proofs.Common.{sym, ◌∙◌, subst, refl, ℕ, List}
 use Rattle.irr_text.specs.ReportText.{report_text}
 use Rattle.irr_top.specs.Ended.{Ended}
 use Rattle.irr_top.specs.Ended.Replies.{serves, without_memory}

@@ -1,5 +1,5 @@
 -- How `small` ends.
-use Rattle.std.proofs.Common.{◌≡◌, sym, ◌∙◌, ap, subst, refl, ℕ, List, Option}
+use Rattle.std.proofs.Common.{subst, refl, ℕ, List, Option}
 use Rattle.irr_io.specs.Told.{IsAtEnd}
 use Rattle.irr_kvec.specs.WaveMeaning.{wave_vector}
 use Rattle.irr_top.specs.RefusalText.{refusal_text}
@@ -10,7 +10,7 @@ use Rattle.irr_top.specs.Ended.Replies.{serves, without_memory as replies_withou
 use Rattle.irr_top.specs.Outcome.{Outcome}
 use Rattle.irr_top.specs.Outcome.Outcome.{served, read_fault, no_memory as without_memory}
 use Rattle.irr_top.specs.declared.status.Status.{Status}
-use Rattle.irr_top.specs.declared.status.Status.TheVariants.{Done, TooLarge}
+use Rattle.irr_top.specs.declared.status.Status.TheVariants.{TooLarge}
 use Rattle.irr_top.specs.declared.status.Kind.TheVariants.{Bytes}
 use Rattle.irr_top.proofs.Outcomes.{ended_not_done}
 use Rattle.irr_top.proofs.InputBytes.{all_read, at_end, too_many}

@@ -1,5 +1,5 @@
 -- The lines are read one after another.
-use Rattle.std.proofs.Common.{◌≡◌, ℕ, suc, ◌+◌, length, rules}
+use Rattle.std.proofs.Common.{◌≡◌, suc, ◌+◌, length, rules}
 use Rattle.irr_top.proofs.Reading.{none_read, one_read, all_read, faulty_next, no_generator, empty_rest}
 use Rattle.irr_top.proofs.input.generators.Goals as goal
 

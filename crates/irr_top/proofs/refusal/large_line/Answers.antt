@@ -1,6 +1,5 @@
 -- The lines of limits that were passed: their literal pieces in one.
-use Rattle.std.proofs.Common.{◌≡◌, refl, sym, subst, List, ◌++◌, ◌∷◌, [], ℕ, IfOk, string_bytes}
-use Rattle.std.specs.Prelude.{codes}
+use Rattle.std.proofs.Common.{◌≡◌, sym, subst, IfOk, string_bytes}
 use Rattle.irr_top.specs.RefusalText.{refusal_text}
 use Rattle.irr_top.specs.declared.status.Status.TheVariants.{TooLarge}
 use Rattle.irr_top.proofs.refusal.large_line.Goals as goal

@@ -1,5 +1,5 @@
 -- The operations that keep the wave vector are counted one by one.
-use Rattle.std.proofs.Common.{◌≡◌, sym, subst, ℕ, suc, ◌+◌, ◌<◌, ◌≤◌, length, get_or, unsigned_abs, true, arith}
+use Rattle.std.proofs.Common.{◌≡◌, sym, subst, suc, ◌+◌, ◌<◌, ◌≤◌, length, get_or, unsigned_abs, arith}
 use Rattle.std.specs.Prelude.{List}
 use Rattle.irr_seitz.specs.OperationMeaning.{operation}
 use Rattle.irr_seitz.specs.Rotation.{determinant}

@@ -1,9 +1,8 @@
 -- The clauses of the top call, from how its command ends.
-use Rattle.std.proofs.Common.{◌≡◌, ℕ, List, Option, map}
+use Rattle.std.proofs.Common.{ℕ, List, Option, map}
 use Rattle.irr_top.specs.Command.{IsFaulty}
 use Rattle.irr_top.specs.Ended.{Ended}
 use Rattle.irr_top.specs.declared.status.Status.{Status}
-use Rattle.irr_kvec.specs.WaveMeaning.{wave_vector}
 use Rattle.irr_top.specs.RefusalText.{refusal_text}
 use Rattle.irr_top.specs.Asked.Asks.{usage}
 use Rattle.irr_top.specs.Outcome.{Outcome}

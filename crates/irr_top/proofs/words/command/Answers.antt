@@ -2,9 +2,7 @@ use Rattle.std.proofs.Common.{rules, arith, ◌≡◌, ◌∙◌, sym, refl, ap,
 use Rattle.std.specs.Prelude.{codes, not}
 use lib.Pointwise.{pointwise}
 use Rattle.std.proofs.lemmas.Grind.{common_steps}
-use Rattle.std.proofs.lemmas.Bool.Decides.{nat_tests}
 use Rattle.irr_kvec.specs.WaveMeaning.{wave_vector}
-use Rattle.irr_top.specs.Command.{IsSmall, IsFaulty}
 use Rattle.irr_top.proofs.WordPlaces.{faulty_unique, none_at, first_at, missing_at, second_at, third_at, small_at}
 use Rattle.irr_top.proofs.words.command.Goals as goal
 
