@@ -100,6 +100,11 @@ rest_shorter text before rest e = let l : length text ≡ length before + suc (l
 pub first_line : (text : List ℕ) → text ≢ [] → 0 < length text → FirstLine text
 first_line text n p = elim (parted text) [
   | whole l ↦ record { line = text; rest = []; is_first = unended n l refl refl; shorter = p }
-  | at_feed before rest e l ↦ record { line = (content before).0; rest = rest; is_first = ended before e l
-      (content before).1; shorter = rest_shorter text before rest e }
+  | at_feed before rest e l ↦ record {
+    line = (content before).0;
+    rest = rest;
+    is_first = ended before e l
+        (content before).1;
+    shorter = rest_shorter text before rest e;
+  }
 ]
