@@ -38,7 +38,8 @@ module _ (R : Ring) where
     unfolding sarrus
     sarrus-scaled a = simp (ring_laws, R)
 
-    sarrus-added : (f g h : R.Carrier) → sarrus (R.add x f) (R.add y g) (R.add z h) u v w p q r ≡ R.add (sarrus x y z u v w p q r) (sarrus f g h u v w p q r)
+    sarrus-added : (f g h : R.Carrier) → sarrus (R.add x f) (R.add y g) (R.add z h) u v w p q r ≡ R.add (sarrus x y z u v w p q r)
+        (sarrus f g h u v w p q r)
     unfolding sarrus
     sarrus-added f g h = simp (ring_laws, R)
 
@@ -60,12 +61,14 @@ module _ (R : Ring) where
     sarrus-row : (a b c k l m n s t : R.Carrier) → sarrus (row a b c x u p) (row a b c y v q) (row a b c z w r) k l m n s t
         ≡ R.add (R.mul a (sarrus x y z k l m n s t)) (R.add (R.mul b (sarrus u v w k l m n s t)) (R.mul c (sarrus p q r k l m n s t)))
     sarrus-row a b c k l m n s t =
-        sarrus-added (R.mul a x) (R.mul a y) (R.mul a z) k l m n s t (R.add (R.mul b u) (R.add (R.mul c p) R.zero)) (R.add (R.mul b v) (R.add (R.mul c q) R.zero)) (R.add (R.mul b w) (R.add (R.mul c r) R.zero))
+        sarrus-added (R.mul a x) (R.mul a y) (R.mul a z) k l m n s t (R.add (R.mul b u) (R.add (R.mul c p) R.zero)) (R.add (R.mul b v) (R.add
+        (R.mul c q) R.zero)) (R.add (R.mul b w) (R.add (R.mul c r) R.zero))
         ∙ ap₂ R.add (sarrus-scaled x y z k l m n s t a)
         (sarrus-added (R.mul b u) (R.mul b v) (R.mul b w) k l m n s t (R.add (R.mul c p) R.zero) (R.add (R.mul c q) R.zero) (R.add (R.mul c r) R.zero)
         ∙ ap₂ R.add (sarrus-scaled u v w k l m n s t b) (last ∙ sarrus-scaled p q r k l m n s t c))
       where
-        last : sarrus (R.add (R.mul c p) R.zero) (R.add (R.mul c q) R.zero) (R.add (R.mul c r) R.zero) k l m n s t ≡ sarrus (R.mul c p) (R.mul c q) (R.mul c r) k l m n s t
+        last : sarrus (R.add (R.mul c p) R.zero) (R.add (R.mul c q) R.zero) (R.add (R.mul c r) R.zero) k l m n s t ≡ sarrus (R.mul c p) (R.mul c q)
+            (R.mul c r) k l m n s t
         last = ap (λ e. sarrus e (R.add (R.mul c q) R.zero) (R.add (R.mul c r) R.zero) k l m n s t) (R.add-zero (R.mul c p))
             ∙ ap (λ e. sarrus (R.mul c p) e (R.add (R.mul c r) R.zero) k l m n s t) (R.add-zero (R.mul c q))
             ∙ ap (λ e. sarrus (R.mul c p) (R.mul c q) e k l m n s t) (R.add-zero (R.mul c r))
@@ -103,7 +106,8 @@ module _ (R : Ring) where
 
       third_after : sarrus x y z u v w X Y Z ≡ R.mul i (sarrus x y z u v w p q r)
       third_after = after_two g h i x y z u v w
-          ∙ three_terms g h i _ _ _ R.zero R.zero (sarrus x y z u v w p q r) (sarrus-same x y z u v w) (same_ends u v w x y z) (sarrus-turned p q r x y z u v w)
+          ∙ three_terms g h i _ _ _ R.zero R.zero (sarrus x y z u v w p q r) (sarrus-same x y z u v w) (same_ends u v w x y z)
+          (sarrus-turned p q r x y z u v w)
           ∙ third_left g h i (sarrus x y z u v w p q r)
 
       first_after : sarrus u v w p q r X Y Z ≡ R.mul g (sarrus x y z u v w p q r)
@@ -113,7 +117,8 @@ module _ (R : Ring) where
 
       second_after : sarrus p q r x y z X Y Z ≡ R.mul h (sarrus x y z u v w p q r)
       second_after = after_two g h i p q r x y z
-          ∙ three_terms g h i _ _ _ R.zero (sarrus x y z u v w p q r) R.zero (same_ends x y z p q r) (sym (sarrus-turned x y z u v w p q r)) (sarrus-same p q r x y z)
+          ∙ three_terms g h i _ _ _ R.zero (sarrus x y z u v w p q r) R.zero (same_ends x y z p q r) (sym (sarrus-turned x y z u v w p q r))
+          (sarrus-same p q r x y z)
           ∙ second_left g h i (sarrus x y z u v w p q r)
 
       -- two rows of the product after one row of the second matrix
@@ -123,7 +128,8 @@ module _ (R : Ring) where
           ∙ three_terms d e f _ _ _ (sarrus k l m x y z X Y Z) (sarrus k l m u v w X Y Z) (sarrus k l m p q r X Y Z)
           (sym (sarrus-turned k l m x y z X Y Z)) (sym (sarrus-turned k l m u v w X Y Z)) (sym (sarrus-turned k l m p q r X Y Z))
 
-      sarrus-mul : (a b c d e f : R.Carrier) → sarrus (row a b c x u p) (row a b c y v q) (row a b c z w r) (row d e f x u p) (row d e f y v q) (row d e f z w r) X Y Z
+      sarrus-mul : (a b c d e f : R.Carrier) → sarrus (row a b c x u p) (row a b c y v q) (row a b c z w r) (row d e f x u p) (row d e f y v q)
+          (row d e f z w r) X Y Z
           ≡ R.mul (sarrus a b c d e f g h i) (sarrus x y z u v w p q r)
       sarrus-mul a b c d e f = sarrus-row a b c (row d e f x u p) (row d e f y v q) (row d e f z w r) X Y Z
           ∙ three_terms a b c _ _ _ _ _ _
@@ -146,18 +152,23 @@ third = next (next first)
 
 sarrus-numbers : (x y z u v w p q r : ℤ) → signed_sum x y z u v w p q r ≡ sarrus integers x y z u v w p q r
 unfolding sarrus
-sarrus-numbers x y z u v w p q r = difference ((((x *ℤ v) *ℤ r) +ℤ ((y *ℤ w) *ℤ p)) +ℤ ((z *ℤ u) *ℤ q)) ((((z *ℤ v) *ℤ p) +ℤ ((y *ℤ u) *ℤ r)) +ℤ ((x *ℤ w) *ℤ q))
+sarrus-numbers x y z u v w p q r = difference ((((x *ℤ v) *ℤ r) +ℤ ((y *ℤ w) *ℤ p)) +ℤ ((z *ℤ u) *ℤ q)) ((((z *ℤ v) *ℤ p) +ℤ ((y *ℤ u) *ℤ r)) +ℤ
+    ((x *ℤ w) *ℤ q))
 
 determinant-sarrus : (M : Rotation) → determinant M
-    ≡ sarrus integers (M.at first first) (M.at first second) (M.at first third) (M.at second first) (M.at second second) (M.at second third) (M.at third first) (M.at third second) (M.at third third)
+    ≡ sarrus integers (M.at first first) (M.at first second) (M.at first third) (M.at second first) (M.at second second) (M.at second third)
+    (M.at third first) (M.at third second) (M.at third third)
 unfolding determinant
-determinant-sarrus M = sarrus-numbers (M.at first first) (M.at first second) (M.at first third) (M.at second first) (M.at second second) (M.at second third) (M.at third first) (M.at third second) (M.at third third)
+determinant-sarrus M = sarrus-numbers (M.at first first) (M.at first second) (M.at first third) (M.at second first) (M.at second second)
+    (M.at second third) (M.at third first) (M.at third second) (M.at third third)
 
 pub determinant-mul : (M N : Rotation) → determinant (M · N) ≡ determinant M *ℤ determinant N
 unfolding ◌·◌ sum
 determinant-mul M N = determinant-sarrus (M · N)
-    ∙ sarrus-mul integers (N.at first first) (N.at first second) (N.at first third) (N.at second first) (N.at second second) (N.at second third) (N.at third first) (N.at third second) (N.at third third)
-    (M.at third first) (M.at third second) (M.at third third) (M.at first first) (M.at first second) (M.at first third) (M.at second first) (M.at second second) (M.at second third)
+    ∙ sarrus-mul integers (N.at first first) (N.at first second) (N.at first third) (N.at second first) (N.at second second) (N.at second third)
+    (N.at third first) (N.at third second) (N.at third third)
+    (M.at third first) (M.at third second) (M.at third third) (M.at first first) (M.at first second) (M.at first third) (M.at second first)
+    (M.at second second) (M.at second third)
     ∙ sym (ap₂ ◌*ℤ◌ (determinant-sarrus M) (determinant-sarrus N))
 
 determinant-unit : unsigned_abs (determinant (unit integers 3)) ≡ 1
@@ -167,10 +178,13 @@ determinant-unit = refl
 abbrev IsUnimodular : Operation → Type 0
 IsUnimodular g = unsigned_abs (determinant g.rotation) ≡ 1
 
-product_size : (g h : Operation) → unsigned_abs (determinant (g ⊙ h).rotation) ≡ unsigned_abs (determinant g.rotation) * unsigned_abs (determinant h.rotation)
-product_size g h = ap (λ R. unsigned_abs (determinant R)) (rotation-op g h) ∙ ap unsigned_abs (determinant-mul g.rotation h.rotation) ∙ unsigned_abs-mul (determinant g.rotation) (determinant h.rotation)
+product_size : (g h : Operation) → unsigned_abs (determinant (g ⊙ h).rotation) ≡ unsigned_abs (determinant g.rotation) * unsigned_abs
+    (determinant h.rotation)
+product_size g h = ap (λ R. unsigned_abs (determinant R)) (rotation-op g h) ∙ ap unsigned_abs (determinant-mul g.rotation h.rotation)
+    ∙ unsigned_abs-mul (determinant g.rotation) (determinant h.rotation)
 
-pub generated_unimodular : (gens : List Operation) → ((s : Operation) → Contains gens s → unsigned_abs (determinant s.rotation) ≡ 1) → {g : Operation} → Generated gens g
+pub generated_unimodular : (gens : List Operation) → ((s : Operation) → Contains gens s → unsigned_abs (determinant s.rotation) ≡ 1)
+    → {g : Operation} → Generated gens g
     → unsigned_abs (determinant g.rotation) ≡ 1
 generated_unimodular gens all one = ap (λ R. unsigned_abs (determinant R)) rotation-identity ∙ determinant-unit
 generated_unimodular gens all (generator {g} m) = all g m
@@ -179,6 +193,7 @@ generated_unimodular gens all (product {g} {h} p q) = product_size g h ∙ ap₂
 generated_unimodular gens all (inverse {g} {h} e p) =
     let a : unsigned_abs (determinant g.rotation) ≡ 1 = generated_unimodular gens all p in
     let b : unsigned_abs (determinant g.rotation) * unsigned_abs (determinant h.rotation) ≡ 1
-    = sym (product_size g h) ∙ ap (λ (f : Operation). unsigned_abs (determinant f.rotation)) e.right ∙ ap (λ R. unsigned_abs (determinant R)) rotation-identity ∙ determinant-unit in
+    = sym (product_size g h) ∙ ap (λ (f : Operation). unsigned_abs (determinant f.rotation)) e.right ∙ ap (λ R. unsigned_abs
+    (determinant R)) rotation-identity ∙ determinant-unit in
     let c : 1 * unsigned_abs (determinant h.rotation) ≡ 1 = subst (λ n. n * unsigned_abs (determinant h.rotation) ≡ 1) a b in
     omega arith

@@ -36,3 +36,6 @@ impl From<irr_memory::Memory> for LittleError {
         LittleError::Memory
     }
 }
+
+#[cfg(test)]
+mod tests;

@@ -20,20 +20,23 @@ group_along G H same group = record {
   has_inverse = λ g p. let i = group.has_inverse g ((same g).0 p) in (i.0, (same i.0).1 i.1, i.2);
 }
 
-unimodular_of : (gs : List Op) → All (λ s. unsigned_abs (determinant (operation s).rotation) ≡ 1) gs → (s : Operation) → Contains (operations gs) s → unsigned_abs (determinant s.rotation) ≡ 1
+unimodular_of : (gs : List Op) → All (λ s. unsigned_abs (determinant (operation s).rotation) ≡ 1) gs → (s : Operation) → Contains (operations gs) s
+    → unsigned_abs (determinant s.rotation) ≡ 1
 unimodular_of gs all s m = at gs all (first_index gs s m) m
   where
     first_index : (gs : List Op) (s : Operation) → Contains (operations gs) s → Op
     first_index [] s m = absurd (let l : m.0 < 0 = m.1 in omega arith)
     first_index (x ∷ xs) s m = x
 
-    at : (gs : List Op) → All (λ s. unsigned_abs (determinant (operation s).rotation) ≡ 1) gs → (d : Op) → Contains (operations gs) s → unsigned_abs (determinant s.rotation) ≡ 1
+    at : (gs : List Op) → All (λ s. unsigned_abs (determinant (operation s).rotation) ≡ 1) gs → (d : Op) → Contains (operations gs) s → unsigned_abs
+        (determinant s.rotation) ≡ 1
     at gs all d m = let p = contained_place gs s d m in subst (λ (g : Operation). unsigned_abs (determinant g.rotation) ≡ 1) p.1 (all m.0 d p.0)
 
 pub returns : goal.returns
 returns c = λ group gs unimodular same. record {
   is_group = group_along (stands_for group) (Generated (operations gs)) same (c.generated_groups.ensures gs unimodular);
-  unimodular = λ p d l. generated_unimodular (operations gs) (unimodular_of gs unimodular) ((same (operation (get_or group.ops.items p d))).0 (canonical_at group d p l).member);
+  unimodular = λ p d l. generated_unimodular (operations gs) (unimodular_of gs unimodular) ((same (operation (get_or group.ops.items p d))).0
+      (canonical_at group d p l).member);
   centrings = c.centrings_of_group.ensures (operations gs) group.centrings.items
       (c.groups_of_generators.ensures.centrings group (operations gs) same group.centrings.items (centrings_of group)) (form_of group).few_centrings;
 }

@@ -15,12 +15,15 @@ equivalent-requires-clause-centrings c = subst IsCentringList (sym c.centrings.e
 pub returns : goal.returns
 returns c = (
   λ t d. kept_of_carried (stands_for c.args.group.now) c.requires.space.is_group (operation (get_or c.args.group.now.ops.items c.args.place d))
-      (canonical_at c.args.group.now d c.args.place c.requires.place).member (wave_vector c.args.k.now) (wave_vector c.image.result) (c.image.ensures.carries d)
+      (canonical_at c.args.group.now d c.args.place c.requires.place).member (wave_vector c.args.k.now) (wave_vector c.image.result)
+      (c.image.ensures.carries d)
       ((same_reciprocal c.args.group.now (wave_vector c.image.result ⊖ wave_vector c.args.k.now)).1
-      (subst (λ cs. AreEquivalent (LatticeOf cs) (wave_vector c.image.result) (wave_vector c.args.k.now)) c.centrings.ensures.list (c.equivalent.ensures.0 t))),
+      (subst (λ cs. AreEquivalent (LatticeOf cs) (wave_vector c.image.result) (wave_vector c.args.k.now)) c.centrings.ensures.list
+      (c.equivalent.ensures.0 t))),
   λ h. let d = first_of c.args.group.now.ops.items (form_of c.args.group.now).nonempty in c.equivalent.ensures.1
       (subst (λ cs. AreEquivalent (LatticeOf cs) (wave_vector c.image.result) (wave_vector c.args.k.now)) (sym c.centrings.ensures.list)
       ((same_reciprocal c.args.group.now (wave_vector c.image.result ⊖ wave_vector c.args.k.now)).0
       (carried_of_kept (stands_for c.args.group.now) c.requires.space.is_group (operation (get_or c.args.group.now.ops.items c.args.place d))
-      (canonical_at c.args.group.now d c.args.place c.requires.place).member (wave_vector c.args.k.now) (wave_vector c.image.result) (c.image.ensures.carries d) (h d)))),
+      (canonical_at c.args.group.now d c.args.place c.requires.place).member (wave_vector c.args.k.now) (wave_vector c.image.result)
+      (c.image.ensures.carries d) (h d)))),
 )

@@ -15,7 +15,8 @@ returns c = record {
   exponent = c.exponent.result;
   period = c.period.result;
   is_exponent = c.exponent.ensures.exponent;
-  is_period = period_in_group (stands_for c.args.group.now) c.args.group.now.centrings.items (centrings_of c.args.group.now) (wave_vector c.args.k.now) c.period.result
+  is_period = period_in_group (stands_for c.args.group.now) c.args.group.now.centrings.items (centrings_of c.args.group.now)
+      (wave_vector c.args.k.now) c.period.result
       (subst (λ cs. IsPeriod (LatticeOf cs) (wave_vector c.args.k.now) c.period.result) c.centrings.ensures.list c.period.ensures);
   is_product = ap₂ ◌*◌ c.from.ensures c.from-2.ensures;
 }
