@@ -26,7 +26,7 @@ use Rattle.irr_cocycle.proofs.Reciprocals.{equivalent_refl, equivalent_trans}
 use Rattle.irr_close.specs.StandsFor.{stands_for}
 use Rattle.irr_close.specs.declared.group.Group.{Group}
 use Rattle.irr_close.proofs.Bareness.{first_of}
-use Rattle.irr_little.specs.SpaceGroup.{IsSpaceGroup}
+use Rattle.irr_close.specs.SpaceGroup.{IsSpaceGroup}
 use Rattle.irr_little.specs.Arms.{AreArms}
 use Rattle.irr_little.specs.declared.arms.Arm.{Arm}
 use Rattle.irr_little.proofs.Spaces.{same_reciprocal, canonical_at, place_of, carried_same, carried_to}

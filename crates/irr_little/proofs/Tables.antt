@@ -36,7 +36,7 @@ use Rattle.irr_close.specs.Canonical.{numbered}
 use Rattle.irr_close.specs.StandsFor.{stands_for}
 use Rattle.irr_close.specs.declared.group.Group.{Group}
 use Rattle.irr_close.proofs.Bareness.{first_of}
-use Rattle.irr_little.specs.SpaceGroup.{IsSpaceGroup}
+use Rattle.irr_close.specs.SpaceGroup.{IsSpaceGroup}
 use Rattle.irr_little.specs.Places.{AreListed, IsLittlePlace, AreLittlePlaces}
 use Rattle.irr_little.specs.Products.{IsProduct}
 use Rattle.irr_little.specs.Entries.{AreClosed, IsProductEntry, IsPhaseEntry}

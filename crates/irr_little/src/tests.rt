@@ -1,13 +1,12 @@
-ghost use Rattle.std.specs.Prelude.{◌≡◌, ◌<◌, ◌≤◌, ◌^◌, IfSome, IsTrue, unsigned_abs};
+ghost use Rattle.std.specs.Prelude.{◌≡◌, ◌<◌, ◌≤◌, ◌^◌, IsTrue, unsigned_abs};
 ghost use Rattle.std.specs.List.{All};
 ghost use Rattle.irr_seitz.specs.Rotation.{determinant, IsWithin, rotation_of};
 ghost use Rattle.irr_seitz.specs.OperationMeaning.{operation};
 ghost use Rattle.irr_kvec.specs.Centrings.{IsWithinLimits};
 ghost use Rattle.irr_close.specs.Rows.{IsSmallRow};
 ghost use Rattle.irr_close.specs.Closing.{IsGenerator};
-ghost use Rattle.irr_little.specs.SpaceGroup.{IsSpaceGroup};
 
-use crate::{Arm, LittleError, little, space_groups, star};
+use crate::{Arm, LittleError, little, star};
 use irr_close::{Group, close};
 use irr_kvec::Wave;
 use irr_rat::Vec3;
@@ -123,16 +122,13 @@ fn is_small_numerator(number: i64) -> bool
 }
 
 // The group that is generated; none where it is refused.
-fn closed(alloc: Global, generators: &[Op], phase: Phase) -> Option<Group>
-    ensures { IfSome result IsSpaceGroup }
-{
+fn closed(alloc: Global, generators: &[Op], phase: Phase) -> Option<Group> {
     if !are_generators(generators) {
         return None;
     }
     if !are_unimodular(generators) {
         return None;
     }
-    space_groups();
     match close(alloc, generators, phase) {
         Ok(group) => Some(group),
         Err(_error) => None,

@@ -41,7 +41,7 @@ use Rattle.irr_close.proofs.Unimodular.{are_invertible}
 use Rattle.irr_close.proofs.Untruncated.{untruncated}
 use Rattle.irr_top.specs.GroupOf.{IsGroupOf, group_of}
 use Rattle.irr_top.proofs.Numerators.{readable_unimodular}
-use Rattle.irr_top.proofs.Determinants.{unimodular_of_inverse}
+use Rattle.irr_close.proofs.Determinants.{unimodular_of_inverse}
 
 pub form_of : (group : Group) → AreCanonical group.ops.items group.centrings.items
 form_of group = untruncated group.ops.items group.centrings.items group.form

@@ -10,6 +10,7 @@ use Rattle.irr_cocycle.proofs.Operations.{translation_between}
 use Rattle.irr_close.specs.StandsFor.{stands_for}
 use Rattle.irr_little.proofs.Spaces.{canonical_at}
 use Rattle.irr_little.proofs.Shifts.{small_pair, numbers_at, fits_shift, small_shift}
+use Rattle.irr_close.proofs.SpaceGroups.{space_group}
 use Rattle.irr_little.proofs.product.product.Goals as goal
 
 some_of : (b : Bool) → (b ≡ false → ⊥) → b ≡ true
@@ -42,7 +43,8 @@ compose-both-requires-clause-other_numerators c = numbers_at c.ops-ops.result.no
 
 pub unwrap-op-requires : goal.unwrap-op-requires
 unwrap-op-requires c = some_of (is_some c.canonical.result) (λ e. c.canonical.ensures.none.0 e (operation c.compose-both.result)
-    (subst (stands_for c.args.group.now) (sym c.compose-both.ensures) (c.requires.space.is_group.has_product (operation c.index-ops-i.result)
+    (subst (stands_for c.args.group.now) (sym c.compose-both.ensures)
+    ((space_group c.args.group.now).is_group.has_product (operation c.index-ops-i.result)
     (operation c.index-ops-j.result)
     (subst (λ (g : Op). stands_for c.args.group.now (operation g)) (sym
     (in_list c.ops-ops.result.now c.args.group.now.ops.items c.ops-ops.ensures.list c.args.i c.index-ops-i.result c.index-ops-i.is))

@@ -12,6 +12,7 @@ use Rattle.irr_close.proofs.Bareness.{first_of}
 use Rattle.irr_little.specs.Entries.{IsPhaseEntry}
 use Rattle.irr_little.proofs.Spaces.{form_of, canonical_at}
 use Rattle.irr_little.proofs.Tables.{product_translation, turns_whole}
+use Rattle.irr_close.proofs.SpaceGroups.{space_group}
 use Rattle.irr_little.proofs.table.exponents.Goals as goal
 
 pub product-both-requires-clause-left : goal.product-both-requires-clause-left
@@ -33,7 +34,7 @@ theta-requires-clause-whole c =
     let j = slice_index c.args.places.now c.loop-j.j-index in
     let d = first_of group.ops.items (form_of group).nonempty in
     turns_whole (stands_for group) (wave_vector c.args.k.now) c.args.order c.requires.order (vector c.product-both.result.shift)
-    (product_translation (stands_for group) c.requires.space.is_group (operation (get_or group.ops.items i d)) (operation
+    (product_translation (stands_for group) (space_group c.args.group.now).is_group (operation (get_or group.ops.items i d)) (operation
     (get_or group.ops.items j d)) (operation (get_or group.ops.items c.product-both.result.op d))
     (vector c.product-both.result.shift)
     (canonical_at group d i (c.requires.closed.below i (Contains-get_or c.args.places.now c.loop-i.i-index 0 c.loop-i-test.true))).member

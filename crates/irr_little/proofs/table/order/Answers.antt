@@ -5,10 +5,11 @@ use Rattle.irr_kvec.specs.Centrings.{LatticeOf, IsCentringList}
 use Rattle.irr_kvec.proofs.GroupLattices.{period_in_group}
 use Rattle.irr_close.specs.StandsFor.{stands_for}
 use Rattle.irr_little.proofs.Spaces.{centrings_of}
+use Rattle.irr_close.proofs.SpaceGroups.{space_group}
 use Rattle.irr_little.proofs.table.order.Goals as goal
 
 pub period-requires-clause-centrings : goal.period-requires-clause-centrings
-period-requires-clause-centrings c = subst IsCentringList (sym c.centrings.ensures.list) c.requires.space.centrings
+period-requires-clause-centrings c = subst IsCentringList (sym c.centrings.ensures.list) (space_group c.args.group.now).centrings
 
 pub returns : goal.returns
 returns c = record {

@@ -11,7 +11,8 @@ use Rattle.irr_little.proofs.tests.is_generator.Goals as goal
 read : (x : ℤ) → FitsSigned w64 x → unsigned_abs (to_z w64 (of_z w64 x)) ≤ 10 ^ 12 → unsigned_abs x ≤ 10 ^ 12
 read x f h = subst (λ y. unsigned_abs y ≤ 10 ^ 12) (to_z-of_z w64 x f) h
 
-within : (num : List ℤ) → unsigned_abs (get_or num 0 (pos 0)) ≤ 10 ^ 12 → unsigned_abs (get_or num 1 (pos 0)) ≤ 10 ^ 12 → unsigned_abs (get_or num 2 (pos 0)) ≤ 10 ^ 12 → AreWithin (10 ^ 12) num
+within : (num : List ℤ) → unsigned_abs (get_or num 0 (pos 0)) ≤ 10 ^ 12 → unsigned_abs (get_or num 1 (pos 0)) ≤ 10 ^ 12
+    → unsigned_abs (get_or num 2 (pos 0)) ≤ 10 ^ 12 → AreWithin (10 ^ 12) num
 unfolding to_nat
 within num x y z = each_of_three (λ i. unsigned_abs (entry num i) ≤ 10 ^ 12) x y z
 
