@@ -1,12 +1,11 @@
 -- Each group is a space group: what some generators generate.
 --   unimodular_of     rotations with inverses have determinant 1 or -1
 --   space_group       the operations are a group, and the centrings a list of centrings
-use Rattle.std.proofs.Common.{◌≡◌, sym, ◌∙◌, ap, subst, ◌↔◌, ◌<◌, ◌⊎◌, List, length, get_or, unsigned_abs}
+use Rattle.std.proofs.Common.{◌≡◌, ◌∙◌, ap, List, length, get_or, unsigned_abs}
 use Rattle.std.proofs.Math.Logic.{∥∥₁_elim}
 use Rattle.std.specs.List.{All}
 use Rattle.irr_algebra.specs.Matrix.{◌·◌, null, scale, unit}
 use Rattle.irr_algebra.specs.Ring.{whole}
-use Rattle.irr_algebra.proofs.Indices.{from_nat, to_nat-from_nat}
 use Rattle.irr_number.specs.Integers.{integers}
 use Rattle.irr_rational.specs.Rational.{rationals}
 use Rattle.irr_rational.proofs.WholeNumbers.{whole_decide}
@@ -18,12 +17,12 @@ use Rattle.irr_rat.specs.declared.vec3.Vec3.{Vec3}
 use Rattle.irr_seitz.specs.Rotation.{determinant}
 use Rattle.irr_seitz.specs.OperationMeaning.{operation}
 use Rattle.irr_seitz.specs.declared.op.Op.{Op}
-use Rattle.irr_kvec.specs.Centrings.{AreCentrings, IsCentringList}
+use Rattle.irr_kvec.specs.Centrings.{IsCentringList}
 use Rattle.irr_kvec.proofs.CentringLists.{are_centring_list}
 use Rattle.irr_cocycle.specs.SpaceGroupLaws.{IsGroup}
 use Rattle.irr_close.specs.Standing.{StandFor}
 use Rattle.irr_close.specs.GeneratedGroup.{AreGenerated}
-use Rattle.irr_close.specs.Canonical.{AreCanonical, IsRotationGroup, numbered}
+use Rattle.irr_close.specs.Canonical.{AreCanonical, IsRotationGroup}
 use Rattle.irr_close.specs.StandsFor.{stands_for}
 use Rattle.irr_close.specs.SpaceGroup.{IsSpaceGroup}
 use Rattle.irr_close.specs.declared.group.Group.{Group}
