@@ -26,3 +26,5 @@ pub mod RotationGroups
 pub mod Exponents
 pub mod Along
 pub mod Reduction
+pub mod Determinants
+pub mod SpaceGroups

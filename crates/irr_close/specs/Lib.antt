@@ -4,8 +4,10 @@ pub mod Limits
 pub mod Closing
 pub mod Centring
 pub mod Standing
+pub mod GeneratedGroup
 pub mod Canonical
 pub mod Bare
 pub mod StandsFor
+pub mod SpaceGroup
 pub mod Exponent
 pub mod Distinct

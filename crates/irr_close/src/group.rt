@@ -1,5 +1,6 @@
 // Groups in canonical form.
 ghost use Rattle.irr_close.specs.Canonical.{AreCanonical};
+ghost use Rattle.irr_close.specs.GeneratedGroup.{AreGenerated};
 
 use crate::centring::{is_apart, shift};
 use crate::closing::place;
@@ -17,6 +18,7 @@ pub struct Group {
     centrings: Vec<Vec3>,
     phase: Phase,
     pub ghost form: { ∥ AreCanonical ops.items centrings.items ∥₁ },
+    pub ghost generated: { ∥ AreGenerated ops.items centrings.items ∥₁ },
 }
 
 impl Group {
@@ -40,7 +42,8 @@ impl Group {
         centrings: Vec<Vec3>,
         phase: Phase,
     ) -> Result<Group, CloseError>
-        requires { IsClosing kept.now centrings.items }
+        requires closing { IsClosing kept.now centrings.items }
+        requires generated { AreGenerated kept.now centrings.items }
         ensures group { IfOk result (λ group. (g : Operation) → stands_for group g ↔ StandFor kept.now centrings.items g) }
         ensures phase { IfOk result (λ group. group.phase ≡ phase) }
         ensures memory { IfErr result (λ e. e ≡ CloseError.Memory) }

@@ -4,5 +4,4 @@ pub mod Spaces
 pub mod Wrapping
 pub mod Shifts
 pub mod Tables
-pub mod Determinants
 pub mod Stars

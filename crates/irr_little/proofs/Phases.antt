@@ -39,7 +39,8 @@ quotient_small a q b m h e l =
     omega arith
 
 pub phase_of_turns : (s : Sign) (n : ℕ) (k : WaveVector) (t : Vector) (q y : ℤ) (x : ℕ) → 0 < n
-    → rationals.mul (integer rationals (pos n)) (dot k t) ≡ integer rationals q → y ≡ sign_number s *ℤ q → pos x ≡ int_rem_euclid y (pos n) → IsPhase s n k t x
+    → rationals.mul (integer rationals (pos n)) (dot k t) ≡ integer rationals q → y ≡ sign_number s *ℤ q → pos x ≡ int_rem_euclid y (pos n)
+    → IsPhase s n k t x
 phase_of_turns s n k t q y x h e f g = record {
   below = below (remainder_below y n h);
   turns = int_div_euclid y (pos n);
@@ -58,10 +59,12 @@ phase_of_turns s n k t q y x h e f g = record {
 
 -- n times the product of a row and a column, over the product of their denominators
 pub turns_value : (n : ℕ) (a c : List ℤ) (b d : ℕ) (p m : ℤ) → 0 < b → 0 < d
-    → p ≡ ((get_or a 0 (pos 0) *ℤ get_or c 0 (pos 0)) +ℤ (get_or a 1 (pos 0) *ℤ get_or c 1 (pos 0))) +ℤ (get_or a 2 (pos 0) *ℤ get_or c 2 (pos 0)) → m ≡ pos n *ℤ p
+    → p ≡ ((get_or a 0 (pos 0) *ℤ get_or c 0 (pos 0)) +ℤ (get_or a 1 (pos 0) *ℤ get_or c 1 (pos 0))) +ℤ (get_or a 2 (pos 0) *ℤ get_or c 2 (pos 0))
+    → m ≡ pos n *ℤ p
     → ratio m (b * d) ≡ rationals.mul (integer rationals (pos n)) (dot (wave_of a b) (vector_of c d))
 turns_value n a c b d p m hb hd e f = ap (λ x. ratio x (b * d)) (f ∙ ap (λ x. pos n *ℤ x) e)
-    ∙ multiple_of_ratio n (((get_or a 0 (pos 0) *ℤ get_or c 0 (pos 0)) +ℤ (get_or a 1 (pos 0) *ℤ get_or c 1 (pos 0))) +ℤ (get_or a 2 (pos 0) *ℤ get_or c 2 (pos 0))) (b * d) (Nat.mul-pos hb hd)
+    ∙ multiple_of_ratio n (((get_or a 0 (pos 0) *ℤ get_or c 0 (pos 0)) +ℤ (get_or a 1 (pos 0) *ℤ get_or c 1 (pos 0))) +ℤ (get_or a 2
+    (pos 0) *ℤ get_or c 2 (pos 0))) (b * d) (Nat.mul-pos hb hd)
     ∙ ap₂ rationals.mul (sym (integer-pos rationals n)) (sym (dot-listed a c b d hb hd))
 
 -- the sign of the phase times a number

@@ -42,8 +42,10 @@ small_of_over xs ys d e m low h same small i = at_factor (lowest_divides (entry 
     at_factor : (k : ℕ) × (0 < k) × (e ≡ k * d) × ((j : Fin 3) → entry ys j ≡ pos k *ℤ entry xs j) → unsigned_abs (entry xs i) ≤ m * d
     at_factor t =
         let f : unsigned_abs (entry ys i) ≡ t.0 * unsigned_abs (entry xs i) = ap unsigned_abs (t.3 i) ∙ unsigned_abs-mul (pos t.0) (entry xs i) in
-        let g : m * e ≡ t.0 * (m * d) = ap (λ v. m * v) t.2 ∙ sym (Nat.mul_assoc m t.0 d) ∙ ap (λ v. v * d) (Nat.mul_comm m t.0) ∙ Nat.mul_assoc t.0 m d in
-        let l : t.0 * unsigned_abs (entry xs i) ≤ t.0 * (m * d) = subst (λ v. v ≤ t.0 * (m * d)) f (subst (λ v. unsigned_abs (entry ys i) ≤ v) g (small i)) in
+        let g : m * e ≡ t.0 * (m * d) = ap (λ v. m * v) t.2 ∙ sym (Nat.mul_assoc m t.0 d) ∙ ap (λ v. v * d) (Nat.mul_comm m t.0)
+        ∙ Nat.mul_assoc t.0 m d in
+        let l : t.0 * unsigned_abs (entry xs i) ≤ t.0 * (m * d) = subst (λ v. v ≤ t.0 * (m * d)) f (subst (λ v. unsigned_abs (entry ys i) ≤ v) g
+        (small i)) in
         Nat.le_of_mul-le-mul_left l t.1
 
 -- a sum and a difference of numerators over the product of the denominators
@@ -52,7 +54,8 @@ sum_of a c b d = ((get_or a 0 (pos 0) *ℤ pos d) +ℤ (get_or c 0 (pos 0) *ℤ 
     ∷ ((get_or a 2 (pos 0) *ℤ pos d) +ℤ (get_or c 2 (pos 0) *ℤ pos b)) ∷ []
 
 difference_of : List ℤ → List ℤ → ℕ → ℕ → List ℤ
-difference_of a c b d = ((get_or a 0 (pos 0) *ℤ pos d) -ℤ (get_or c 0 (pos 0) *ℤ pos b)) ∷ ((get_or a 1 (pos 0) *ℤ pos d) -ℤ (get_or c 1 (pos 0) *ℤ pos b))
+difference_of a c b d = ((get_or a 0 (pos 0) *ℤ pos d) -ℤ (get_or c 0 (pos 0) *ℤ pos b)) ∷ ((get_or a 1 (pos 0) *ℤ pos d) -ℤ (get_or c 1
+    (pos 0) *ℤ pos b))
     ∷ ((get_or a 2 (pos 0) *ℤ pos d) -ℤ (get_or c 2 (pos 0) *ℤ pos b)) ∷ []
 
 sum_of-at : (a c : List ℤ) (b d : ℕ) (i : Fin 3) → entry (sum_of a c b d) i ≡ (entry a i *ℤ pos d) +ℤ (entry c i *ℤ pos b)
@@ -76,19 +79,22 @@ part_bound : (x : ℤ) (b d m : ℕ) → unsigned_abs x ≤ m * b → unsigned_a
 part_bound x b d m h = subst (λ v. unsigned_abs (x *ℤ pos d) ≤ v) (Nat.mul_assoc m b d) (abs-mul x (pos d) (m * b) d h (omega arith))
 
 swapped_bound : (y : ℤ) (b d n : ℕ) → unsigned_abs y ≤ n * d → unsigned_abs (y *ℤ pos b) ≤ n * (b * d)
-swapped_bound y b d n h = subst (λ v. unsigned_abs (y *ℤ pos b) ≤ v) (Nat.mul_assoc n d b ∙ ap (λ v. n * v) (Nat.mul_comm d b)) (abs-mul y (pos b) (n * d) b h (omega arith))
+swapped_bound y b d n h = subst (λ v. unsigned_abs (y *ℤ pos b) ≤ v) (Nat.mul_assoc n d b ∙ ap (λ v. n * v) (Nat.mul_comm d b)) (abs-mul y (pos b)
+    (n * d) b h (omega arith))
 
 sum_bound : (a c : List ℤ) (b d m n : ℕ) → ((i : Fin 3) → unsigned_abs (entry a i) ≤ m * b) → ((i : Fin 3) → unsigned_abs (entry c i) ≤ n * d)
     → (i : Fin 3) → unsigned_abs (entry (sum_of a c b d) i) ≤ (m + n) * (b * d)
 sum_bound a c b d m n h k i = subst (λ x. unsigned_abs x ≤ (m + n) * (b * d)) (sym (sum_of-at a c b d i))
     (subst (λ v. unsigned_abs ((entry a i *ℤ pos d) +ℤ (entry c i *ℤ pos b)) ≤ v) (sym (Nat.add-mul m n (b * d)))
-    (abs-add (entry a i *ℤ pos d) (entry c i *ℤ pos b) (m * (b * d)) (n * (b * d)) (part_bound (entry a i) b d m (h i)) (swapped_bound (entry c i) b d n (k i))))
+    (abs-add (entry a i *ℤ pos d) (entry c i *ℤ pos b) (m * (b * d)) (n * (b * d)) (part_bound (entry a i) b d m (h i)) (swapped_bound
+    (entry c i) b d n (k i))))
 
 difference_bound : (a c : List ℤ) (b d m n : ℕ) → ((i : Fin 3) → unsigned_abs (entry a i) ≤ m * b) → ((i : Fin 3) → unsigned_abs (entry c i) ≤ n * d)
     → (i : Fin 3) → unsigned_abs (entry (difference_of a c b d) i) ≤ (m + n) * (b * d)
 difference_bound a c b d m n h k i = subst (λ x. unsigned_abs x ≤ (m + n) * (b * d)) (sym (difference_of-at a c b d i))
     (subst (λ v. unsigned_abs ((entry a i *ℤ pos d) -ℤ (entry c i *ℤ pos b)) ≤ v) (sym (Nat.add-mul m n (b * d)))
-    (abs-sub (entry a i *ℤ pos d) (entry c i *ℤ pos b) (m * (b * d)) (n * (b * d)) (part_bound (entry a i) b d m (h i)) (swapped_bound (entry c i) b d n (k i))))
+    (abs-sub (entry a i *ℤ pos d) (entry c i *ℤ pos b) (m * (b * d)) (n * (b * d)) (part_bound (entry a i) b d m (h i)) (swapped_bound
+    (entry c i) b d n (k i))))
 
 -- opposite numerators
 negated : List ℤ → List ℤ
@@ -136,17 +142,20 @@ cell_numbers : (g : Op) → IsInCell (operation g).vector → (i : Fin 3) → un
 cell_numbers g cell i = let l : unsigned_abs (entry g.num i) ≤ g.den = small_numerators g.num g.den g.lowest.positive cell i in omega arith
 
 -- the product of operations with vectors in the cell, and its difference from a vector in the cell
-module _ (g h both : Op) (within : IsWithin 9 (operation g).rotation) (cell : IsInCell (operation g).vector) (cell-right : IsInCell (operation h).vector)
+module _ (g h both : Op) (within : IsWithin 9 (operation g).rotation) (cell : IsInCell (operation g).vector) (cell-right : IsInCell
+    (operation h).vector)
     (is : operation both ≡ operation g ⊙ operation h) where
   turned_numbers : (i : Fin 3) → unsigned_abs (entry (turned_of g.rot h.num) i) ≤ 27 * h.den
   turned_numbers i =
       let l : unsigned_abs (entry (turned_of g.rot h.num) i) ≤ (9 * h.den + 9 * h.den) + 9 * h.den
-      = turned_bound g.rot h.num (turned_of g.rot h.num) 9 h.den within (small_numerators h.num h.den h.lowest.positive cell-right) (turned_of-is g.rot h.num) i in
+      = turned_bound g.rot h.num (turned_of g.rot h.num) 9 h.den within (small_numerators h.num h.den h.lowest.positive cell-right)
+      (turned_of-is g.rot h.num) i in
       omega arith
 
   both_vector : vector_of both.num both.den ≡ vector_of (sum_of g.num (turned_of g.rot h.num) g.den h.den) (g.den * h.den)
   both_vector = ap (λ (f : Operation). f.vector) is ∙ product-vector (operation g) (operation h)
-      ∙ ap (λ v. vector_of g.num g.den ⊕ v) (sym (turned_vector g.rot h.num (turned_of g.rot h.num) h.den h.lowest.positive (turned_of-is g.rot h.num)))
+      ∙ ap (λ v. vector_of g.num g.den ⊕ v) (sym (turned_vector g.rot h.num (turned_of g.rot h.num) h.den h.lowest.positive
+      (turned_of-is g.rot h.num)))
       ∙ sym (sum_of-vector g.num (turned_of g.rot h.num) g.den h.den g.lowest.positive h.lowest.positive)
 
   pub both_numbers : (i : Fin 3) → unsigned_abs (entry both.num i) ≤ 28 * both.den
@@ -177,7 +186,8 @@ module _ (ops : List Op) (cs : List Vec3) (form : AreCanonical ops cs) where
     denominator_at = subst (λ (x : Op). x.den ≤ 100000) (sym at) (small_ops ops cs form i g below)
 
     pub numbers_at : AreWithin (10 ^ 12) g.num
-    numbers_at j = let l : unsigned_abs (entry g.num j) ≤ g.den = small_numerators g.num g.den g.lowest.positive cell_of j in let m = denominator_at in omega arith
+    numbers_at j = let l : unsigned_abs
+        (entry g.num j) ≤ g.den = small_numerators g.num g.den g.lowest.positive cell_of j in let m = denominator_at in omega arith
 
     divides_at : (t : AreOverOne ops cs) → g.den ∣ t.common
     divides_at t = subst (λ (x : Op). x.den ∣ t.common) (sym at) (t.kept_divide i g below)
@@ -191,8 +201,10 @@ module _ (ops : List Op) (cs : List Vec3) (form : AreCanonical ops cs) where
 
       module _ (both : Op) (is : operation both ≡ operation g ⊙ operation h) where
         divides_both : (t : AreOverOne ops cs) → both.den ∣ t.common
-        divides_both t = divides_of_over both.num both.den t.common both.lowest (subst (λ (f : Operation). IsOver t.common f.vector) (sym is) (over_product t.common (operation g) (operation h)
-            (over_of_divides g.num g.den t.common g.lowest.positive (divides_at t)) (over_of_divides h.num h.den t.common h.lowest.positive (divides_right t))))
+        divides_both t = divides_of_over both.num both.den t.common both.lowest (subst (λ (f : Operation). IsOver t.common f.vector) (sym is)
+            (over_product t.common (operation g) (operation h)
+            (over_of_divides g.num g.den t.common g.lowest.positive (divides_at t)) (over_of_divides h.num h.den t.common h.lowest.positive
+            (divides_right t))))
 
         pub denominator_both : both.den ≤ 100000
         denominator_both = stable_le both.den 100000 (over (λ t. divisor_small both.den t.common t.positive t.small (divides_both t)))
@@ -217,6 +229,8 @@ module _ (ops : List Op) (cs : List Vec3) (form : AreCanonical ops cs) where
           small_shift t same k =
               let n : unsigned_abs (entry t.num k) ≤ 29 * t.den = shift_numbers g h both entries_at cell_of right_cell is o t cell-of-o same k in
               let b : t.den ≤ 100000 = stable_le t.den 100000 (over (λ u. divisor_small t.den u.common u.positive u.small
-              (divides_of_over t.num t.den u.common t.lowest (subst (IsOver u.common) (sym same) (over-sub u.common (operation both).vector (operation o).vector
-              (over_of_divides both.num both.den u.common both.lowest.positive (divides_both u)) (over_of_divides o.num o.den u.common o.lowest.positive (divides_of u))))))) in
+              (divides_of_over t.num t.den u.common t.lowest (subst (IsOver u.common) (sym same) (over-sub u.common (operation both).vector
+              (operation o).vector
+              (over_of_divides both.num both.den u.common both.lowest.positive (divides_both u))
+              (over_of_divides o.num o.den u.common o.lowest.positive (divides_of u))))))) in
               omega arith

@@ -40,7 +40,8 @@ pub numbering_of : (group : Group) (d : Op) → IsNumbering (stands_for group) (
 unfolding stands_for
 numbering_of group d = (form_of group).numbering d
 
-pub canonical_at : (group : Group) (d : Op) (p : ℕ) → p < length group.ops.items → IsCanonicalOperation (stands_for group) (operation (get_or group.ops.items p d))
+pub canonical_at : (group : Group) (d : Op) (p : ℕ) → p < length group.ops.items → IsCanonicalOperation (stands_for group) (operation
+    (get_or group.ops.items p d))
 canonical_at group d p l = subst (IsCanonicalOperation (stands_for group)) (at_place group d p l)
     ((numbering_of group d).canonical (from_nat (length group.ops.items) p l))
 
@@ -71,7 +72,8 @@ module _ (G : Operation → Type 0) (group : IsGroup G) (g : Operation) (m : G g
 
   pub carried_of_kept : (k w : WaveVector) → Carries G g k w → AreEquivalent G (turned k g) k → AreEquivalent G w k
   carried_of_kept k w c e = let i = group.has_inverse g m in equivalent_trans G w c.image k c.equivalent
-      (subst₂ (λ x y. AreEquivalent G x y) (sym (image_is k c.image i.0 i.2 c.turned_back)) (sym (turned-op k g i.0) ∙ ap (turned k) i.2.right ∙ turned-identity k)
+      (subst₂ (λ x y. AreEquivalent G x y) (sym (image_is k c.image i.0 i.2 c.turned_back)) (sym (turned-op k g i.0) ∙ ap (turned k) i.2.right
+      ∙ turned-identity k)
       (equivalent_sym G (turned (turned k g) i.0) (turned k i.0) (equivalent-turned G group (turned k g) k i.0 i.1 e)))
 
   pub carried_same : (k w v : WaveVector) → Carries G g k w → Carries G g k v → AreEquivalent G w v

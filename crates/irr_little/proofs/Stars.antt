@@ -26,7 +26,7 @@ use Rattle.irr_cocycle.proofs.Reciprocals.{equivalent_refl, equivalent_trans}
 use Rattle.irr_close.specs.StandsFor.{stands_for}
 use Rattle.irr_close.specs.declared.group.Group.{Group}
 use Rattle.irr_close.proofs.Bareness.{first_of}
-use Rattle.irr_little.specs.SpaceGroup.{IsSpaceGroup}
+use Rattle.irr_close.specs.SpaceGroup.{IsSpaceGroup}
 use Rattle.irr_little.specs.Arms.{AreArms}
 use Rattle.irr_little.specs.declared.arms.Arm.{Arm}
 use Rattle.irr_little.proofs.Spaces.{same_reciprocal, canonical_at, place_of, carried_same, carried_to}
@@ -75,7 +75,8 @@ pairs_push R xs x h p i j d l m = elim (cases_lt j (length xs)) [
       (subst (λ n. R (get_or xs i d) (get_or (xs ++ x ∷ []) n d)) end (subst (R (get_or xs i d)) (sym (get_or-append_seam xs x [] d)) (p i d first))))
 ]
 
-one_push : {X : Type 0} (P : X → Type 0) (xs : List X) (x : X) → (i : ℕ) × (i < length xs) × HoldsAt P xs i → (i : ℕ) × (i < length (xs ++ x ∷ [])) × HoldsAt P (xs ++ x ∷ []) i
+one_push : {X : Type 0} (P : X → Type 0) (xs : List X) (x : X) → (i : ℕ) × (i < length xs) × HoldsAt P xs i → (i : ℕ) × (i < length
+    (xs ++ x ∷ [])) × HoldsAt P (xs ++ x ∷ []) i
 one_push P xs x t = (
   t.0,
   (let size : length (xs ++ x ∷ []) ≡ length xs + 1 = length-append xs (x ∷ []) in let l : t.0 < length xs = t.1 in omega arith),
@@ -102,13 +103,16 @@ module _ (group : Group) (space : IsSpaceGroup group) (k : WaveVector) where
   }
 
   -- two wave vectors to which one operation carries k are equivalent
-  same_image : (j : ℕ) (v w : WaveVector) → j < length group.ops.items → (d : Op) → Carries (stands_for group) (operation (get_or group.ops.items j d)) k v
+  same_image : (j : ℕ) (v w : WaveVector) → j < length group.ops.items → (d : Op) → Carries (stands_for group) (operation
+      (get_or group.ops.items j d)) k v
       → Carries (stands_for group) (operation (get_or group.ops.items j d)) k w → AreEquivalent (stands_for group) v w
-  same_image j v w l d = carried_same (stands_for group) space.is_group (operation (get_or group.ops.items j d)) (canonical_at group d j l).member k v w
+  same_image j v w l d = carried_same (stands_for group) space.is_group (operation (get_or group.ops.items j d))
+      (canonical_at group d j l).member k v w
 
   pub arms-push : (n : ℕ) (arms : List Arm) (arm : Arm) → ArmsSoFar group k n arms → n < length group.ops.items → arm.op ≡ n → IsWithinLimits arm.wave
       → IsReduced (stands_for group) (wave_vector arm.wave) (wave_vector arm.wave) → CarriesTo group k n arm
-      → All (λ a. ¬ (AreEquivalent (stands_for group) (wave_vector a.wave) (wave_vector arm.wave))) arms → ArmsSoFar group k (n + 1) (arms ++ arm ∷ [])
+      → All (λ a. ¬ (AreEquivalent (stands_for group) (wave_vector a.wave) (wave_vector arm.wave))) arms → ArmsSoFar group k (n + 1)
+      (arms ++ arm ∷ [])
   arms-push n arms arm so inside number limits red carried fresh = record {
     limits = all_push (λ a. IsWithinLimits a.wave) arms arm so.limits limits;
     below = all_push (λ a. a.op < n + 1) arms arm (λ i d l. let b : (get_or arms i d).op < n = so.below i d l in omega arith) (omega arith);
@@ -158,12 +162,15 @@ module _ (group : Group) (space : IsSpaceGroup group) (k : WaveVector) where
     number_is = number_is;
     star = λ d a. record {
       reduced = λ i. so.reduced (to_nat i) a (to_nat-lt i);
-      carries = λ i. subst (λ n. Carries (stands_for group) (operation (get_or group.ops.items n d)) k (wave_vector (get_or arms (to_nat i) a).wave)) (sym (number_is i a))
+      carries = λ i. subst (λ n. Carries (stands_for group) (operation (get_or group.ops.items n d)) k (wave_vector (get_or arms
+          (to_nat i) a).wave)) (sym (number_is i a))
           (so.carries (to_nat i) a (to_nat-lt i) d);
       is_first = λ i j c. subst (λ n. n ≤ to_nat j) (sym (number_is i a)) (so.is_first (to_nat i) a (to_nat-lt i) (to_nat j) (to_nat-lt j)
-          (λ f. subst (λ (g : Op). Carries (stands_for group) (operation g) k (wave_vector (get_or arms (to_nat i) a).wave)) (get_or_default group.ops.items (to_nat j) d f (to_nat-lt j)) c));
+          (λ f. subst (λ (g : Op). Carries (stands_for group) (operation g) k (wave_vector (get_or arms (to_nat i) a).wave))
+          (get_or_default group.ops.items (to_nat j) d f (to_nat-lt j)) c));
       all = λ w s. in_star w a d s (place_of group d s.operation s.member);
-      ordered = λ i j l. subst (λ n. n < to_nat (number j)) (sym (number_is i a)) (subst (λ n. (get_or arms (to_nat i) a).op < n) (sym (number_is j a))
+      ordered = λ i j l. subst (λ n. n < to_nat (number j)) (sym (number_is i a)) (subst (λ n. (get_or arms (to_nat i) a).op < n) (sym
+          (number_is j a))
           (so.ordered (to_nat i) (to_nat j) a l (to_nat-lt j)));
     };
   }
@@ -175,7 +182,8 @@ module _ (group : Group) (space : IsSpaceGroup group) (k : WaveVector) where
       number i = from_nat (length group.ops.items) (get_or arms (to_nat i) (some_arm i)).op (so.below (to_nat i) (some_arm i) (to_nat-lt i))
 
       number_is : (i : Fin (length arms)) (a : Arm) → to_nat (number i) ≡ (get_or arms (to_nat i) a).op
-      number_is i a = to_nat-from_nat (length group.ops.items) (get_or arms (to_nat i) (some_arm i)).op (so.below (to_nat i) (some_arm i) (to_nat-lt i))
+      number_is i a = to_nat-from_nat (length group.ops.items) (get_or arms (to_nat i) (some_arm i)).op (so.below (to_nat i) (some_arm i)
+          (to_nat-lt i))
           ∙ ap (λ (x : Arm). x.op) (get_or_default arms (to_nat i) (some_arm i) a (to_nat-lt i))
 
       in_star : (w : WaveVector) (a : Arm) (d : Op) (s : IsInStar (stands_for group) k w)
@@ -200,12 +208,20 @@ module _ (group : Group) (space : IsSpaceGroup group) (k : WaveVector) where
 
 -- what the program finds of the arms, by the lattice of the centrings
 pub fresh_in : (group : Group) (cs : List Vec3) → cs ≡ group.centrings.items → (xs ys : List Arm) → xs ≡ ys → (w : WaveVector)
-    → All (λ arm. ¬ (AreEquivalent (LatticeOf cs) (wave_vector arm.wave) w)) xs → All (λ arm. ¬ (AreEquivalent (stands_for group) (wave_vector arm.wave) w)) ys
-fresh_in group cs e xs ys f w h i d l equivalent = subst (λ (zs : List Arm). All (λ arm. ¬ (AreEquivalent (LatticeOf cs) (wave_vector arm.wave) w)) zs) f h i d l
-    (subst (λ (zs : List Vec3). AreEquivalent (LatticeOf zs) (wave_vector (get_or ys i d).wave) w) (sym e) ((same_reciprocal group (wave_vector (get_or ys i d).wave ⊖ w)).0 equivalent))
+    → All (λ arm. ¬ (AreEquivalent (LatticeOf cs) (wave_vector arm.wave) w)) xs → All (λ arm. ¬ (AreEquivalent (stands_for group)
+    (wave_vector arm.wave) w)) ys
+fresh_in group cs e xs ys f w h i d l equivalent = subst (λ (zs : List Arm). All (λ arm. ¬ (AreEquivalent (LatticeOf cs)
+    (wave_vector arm.wave) w)) zs) f h i d l
+    (subst (λ (zs : List Vec3). AreEquivalent (LatticeOf zs) (wave_vector (get_or ys i d).wave) w) (sym e) ((same_reciprocal group (wave_vector
+    (get_or ys i d).wave ⊖ w)).0 equivalent))
 
 pub known_in : (group : Group) (cs : List Vec3) → cs ≡ group.centrings.items → (xs ys : List Arm) → xs ≡ ys → (w : WaveVector)
     → (i : ℕ) × (i < length xs) × HoldsAt (λ arm. AreEquivalent (LatticeOf cs) (wave_vector arm.wave) w) xs i
     → (i : ℕ) × (i < length ys) × HoldsAt (λ arm. AreEquivalent (stands_for group) (wave_vector arm.wave) w) ys i
-known_in group cs e xs ys f w t = subst (λ (zs : List Arm). (i : ℕ) × (i < length zs) × HoldsAt (λ arm. AreEquivalent (stands_for group) (wave_vector arm.wave) w) zs i) f
-    (t.0, t.1, λ d. (same_reciprocal group (wave_vector (get_or xs t.0 d).wave ⊖ w)).1 (subst (λ (zs : List Vec3). AreEquivalent (LatticeOf zs) (wave_vector (get_or xs t.0 d).wave) w) e (t.2 d)))
+known_in group cs e xs ys f w t = subst (λ (zs : List Arm). (i : ℕ) × (i < length zs) × HoldsAt (λ arm. AreEquivalent (stands_for group)
+    (wave_vector arm.wave) w) zs i) f (
+      t.0,
+      t.1,
+      λ d. (same_reciprocal group (wave_vector (get_or xs t.0 d).wave ⊖ w)).1 (subst (λ (zs : List Vec3). AreEquivalent (LatticeOf zs)
+          (wave_vector (get_or xs t.0 d).wave) w) e (t.2 d)),
+    )

@@ -36,7 +36,7 @@ use Rattle.irr_close.specs.Canonical.{numbered}
 use Rattle.irr_close.specs.StandsFor.{stands_for}
 use Rattle.irr_close.specs.declared.group.Group.{Group}
 use Rattle.irr_close.proofs.Bareness.{first_of}
-use Rattle.irr_little.specs.SpaceGroup.{IsSpaceGroup}
+use Rattle.irr_close.specs.SpaceGroup.{IsSpaceGroup}
 use Rattle.irr_little.specs.Places.{AreListed, IsLittlePlace, AreLittlePlaces}
 use Rattle.irr_little.specs.Products.{IsProduct}
 use Rattle.irr_little.specs.Entries.{AreClosed, IsProductEntry, IsPhaseEntry}
@@ -44,15 +44,18 @@ use Rattle.irr_little.specs.Table.{listed_operations, IsLittleTable}
 use Rattle.irr_little.proofs.Spaces.{form_of, at_place, numbering_of, canonical_at, has_canonical}
 
 -- g h = (1|t) f in a group: the translation is in it
-pub product_translation : (G : Operation → Type 0) → IsGroup G → (g h f : Operation) (t : Vector) → G g → G h → G f → g ⊙ h ≡ translation t ⊙ f → IsTranslation G t
+pub product_translation : (G : Operation → Type 0) → IsGroup G → (g h f : Operation) (t : Vector) → G g → G h → G f → g ⊙ h ≡ translation t ⊙ f
+    → IsTranslation G t
 product_translation G group g h f t p q r e = let i = group.has_inverse f r in
     subst G (ap (λ x. x ⊙ i.0) e ∙ op-assoc (translation t) f i.0 ∙ ap (λ x. translation t ⊙ x) i.2.right ∙ op-identity (translation t))
     (group.has_product (g ⊙ h) i.0 (group.has_product g h p q) i.1)
 
 -- the order of k times k.t is whole
-pub turns_whole : (G : Operation → Type 0) (k : WaveVector) (n : ℕ) → IsOrder G k n → (t : Vector) → IsTranslation G t → IsWhole (rationals.mul (integer rationals (pos n)) (dot k t))
+pub turns_whole : (G : Operation → Type 0) (k : WaveVector) (n : ℕ) → IsOrder G k n → (t : Vector) → IsTranslation G t → IsWhole (rationals.mul
+    (integer rationals (pos n)) (dot k t))
 turns_whole G k n order t m = subst IsWhole (regroup (whole rationals order.exponent) (whole rationals order.period) (dot k t)
-    ∙ ap (λ x. rationals.mul x (dot k t)) (sym (whole-mul rationals order.exponent order.period) ∙ ap (whole rationals) (sym order.is_product) ∙ sym (integer-pos rationals n)))
+    ∙ ap (λ x. rationals.mul x (dot k t)) (sym (whole-mul rationals order.exponent order.period) ∙ ap (whole rationals) (sym order.is_product) ∙ sym
+    (integer-pos rationals n)))
     (product_whole (whole rationals order.exponent) (rationals.mul (whole rationals order.period) (dot k t))
     (subst IsWhole (integer-pos rationals order.exponent) (whole-integer (pos order.exponent)))
     (subst IsWhole (dot-times order.period k t) (order.is_period.reciprocal.is_whole t m)))
@@ -65,10 +68,12 @@ one_rotation : (s t : Vector) (f h : Operation) → translation s ⊙ f ≡ tran
 one_rotation s t f h e = sym (rotation-translation-op s f) ∙ ap (λ (x : Operation). x.rotation) e ∙ rotation-translation-op t h
 
 one_translation : (s t : Vector) (f : Operation) → translation s ⊙ f ≡ translation t ⊙ f → s ≡ t
-one_translation s t f e = sym (add-sub s f.vector) ∙ ap (λ v. v ⊖ f.vector) (sym (vector-translation-op s f) ∙ ap (λ (x : Operation). x.vector) e ∙ vector-translation-op t f) ∙ add-sub t f.vector
+one_translation s t f e = sym (add-sub s f.vector) ∙ ap (λ v. v ⊖ f.vector) (sym (vector-translation-op s f) ∙ ap (λ (x : Operation). x.vector) e
+    ∙ vector-translation-op t f) ∙ add-sub t f.vector
 
 -- an increasing list of numbers below n is not longer than n
-increasing_above : (xs : List ℕ) → ((a b : ℕ) → a < b → b < length xs → slice_index xs a < slice_index xs b) → (a : ℕ) → a < length xs → a ≤ slice_index xs a
+increasing_above : (xs : List ℕ) → ((a b : ℕ) → a < b → b < length xs → slice_index xs a < slice_index xs b) → (a : ℕ) → a < length xs
+    → a ≤ slice_index xs a
 increasing_above xs rising zero l = omega arith
 increasing_above xs rising (suc a) l =
     let h : a ≤ slice_index xs a = increasing_above xs rising a (omega arith) in
@@ -99,8 +104,10 @@ module _ (group : Group) (space : IsSpaceGroup group) (k : WaveVector) (xs : Lis
         let b : length group.ops.items ≤ 48 = (form_of group).few in omega arith);
     below = places.below;
     products = λ i j l t p q e. places.all l e.below (λ f.
-        (little_rotation G space.is_group k (operation (get_or group.ops.items i f) ⊙ operation (get_or group.ops.items j f)) (operation (get_or group.ops.items l f))
-        (little_product G space.is_group k (operation (get_or group.ops.items i f)) (operation (get_or group.ops.items j f)) (member_at f i p) (member_at f j q))
+        (little_rotation G space.is_group k (operation (get_or group.ops.items i f) ⊙ operation (get_or group.ops.items j f)) (operation
+        (get_or group.ops.items l f))
+        (little_product G space.is_group k (operation (get_or group.ops.items i f)) (operation (get_or group.ops.items j f)) (member_at f i p)
+        (member_at f j q))
         (canonical_at group f l e.below).member
         (sym (rotation-translation-op t (operation (get_or group.ops.items l f))) ∙ ap (λ (x : Operation). x.rotation) (sym (e.is f)))).keeps);
   }
@@ -156,15 +163,20 @@ module _ (group : Group) (space : IsSpaceGroup group) (k : WaveVector) (xs : Lis
       theory = little_table G space.is_group (has_canonical group) (sign_of group.phase) k (listed_operations group h xs d) little_numbering n order
 
       theory_is : IsTableOf (sign_of group.phase) G k (listed_operations group h xs d) theory
-      theory_is = little_table-is_table G space.is_group (has_canonical group) (sign_of group.phase) k (listed_operations group h xs d) little_numbering n order
+      theory_is = little_table-is_table G space.is_group (has_canonical group) (sign_of group.phase) k
+          (listed_operations group h xs d) little_numbering n order
 
       theory_order : theory.order ≡ n
-      theory_order = little_table-order G space.is_group (has_canonical group) (sign_of group.phase) k (listed_operations group h xs d) little_numbering n order
+      theory_order = little_table-order G space.is_group (has_canonical group) (sign_of group.phase) k
+          (listed_operations group h xs d) little_numbering n order
 
-      same_place : (i j : Fin h) (x : ℕ) (t : Vector) → x < h → IsProduct group (slice_index xs (to_nat i)) (slice_index xs (to_nat j)) (slice_index xs x) t
+      same_place : (i j : Fin h) (x : ℕ) (t : Vector) → x < h → IsProduct group (slice_index xs (to_nat i)) (slice_index xs (to_nat j))
+          (slice_index xs x) t
           → to_nat (theory.product i j) ≡ x
-      same_place i j x t l p = ap to_nat (rotation_distinct G (IsInLittleGroup G k) (listed_operations group h xs d) little_numbering (theory.product i j) (from_nat h x l)
-          (one_rotation (theory_is.quotient i j) t (listed_operations group h xs d (theory.product i j)) (operation (get_or group.ops.items (slice_index xs x) d))
+      same_place i j x t l p = ap to_nat (rotation_distinct G (IsInLittleGroup G k) (listed_operations group h xs d) little_numbering
+          (theory.product i j) (from_nat h x l)
+          (one_rotation (theory_is.quotient i j) t (listed_operations group h xs d (theory.product i j)) (operation (get_or group.ops.items
+          (slice_index xs x) d))
           (sym (theory_is.products i j) ∙ p.is d)
           ∙ ap (λ m. (operation (get_or group.ops.items (slice_index xs m) d)).rotation) (sym (to_nat-from_nat h x l)))) ∙ to_nat-from_nat h x l
 
@@ -177,15 +189,18 @@ module _ (group : Group) (space : IsSpaceGroup group) (k : WaveVector) (xs : Lis
           f : Operation
           f = operation (get_or group.ops.items l d)
 
-          both : translation (theory_is.quotient i j) ⊙ listed_operations group h xs d (theory.product i j) ≡ translation t ⊙ operation (get_or group.ops.items l d)
+          both : translation (theory_is.quotient i j) ⊙ listed_operations group h xs d (theory.product i j) ≡ translation t ⊙ operation
+              (get_or group.ops.items l d)
           both = sym (theory_is.products i j) ∙ p.is d
 
           same_operation : listed_operations group h xs d (theory.product i j) ≡ operation (get_or group.ops.items l d)
           same_operation = sym (place-operation (theory.product i j))
-              ∙ ap (numbered group.ops.items d) (rotation_distinct G (λ _. Unit {0}) (numbered group.ops.items d) (numbering_of group d) (place (theory.product i j))
+              ∙ ap (numbered group.ops.items d) (rotation_distinct G (λ _. Unit {0}) (numbered group.ops.items d) (numbering_of group d) (place
+              (theory.product i j))
               (from_nat (length group.ops.items) l p.below)
               (ap (λ (x : Operation). x.rotation) (place-operation (theory.product i j))
-              ∙ one_rotation (theory_is.quotient i j) t (listed_operations group h xs d (theory.product i j)) (operation (get_or group.ops.items l d)) both
+              ∙ one_rotation (theory_is.quotient i j) t (listed_operations group h xs d (theory.product i j)) (operation
+              (get_or group.ops.items l d)) both
               ∙ ap (λ (x : Operation). x.rotation) (sym (at_place group d l p.below))))
               ∙ at_place group d l p.below
 
@@ -198,7 +213,8 @@ module _ (group : Group) (space : IsSpaceGroup group) (k : WaveVector) (xs : Lis
       listed_theory products exponents ps es = record {
         same_order = theory_order;
         product-entry = λ i j. let e = ps (to_nat i) (to_nat j) (within i) (within j) in
-            same_place i j (entry (length xs) products (to_nat i) (to_nat j)) e.1.0 (let l : entry (length xs) products (to_nat i) (to_nat j) < length xs = e.0 in omega arith) e.1.1
+            same_place i j (entry (length xs) products (to_nat i) (to_nat j)) e.1.0 (let l : entry (length xs) products (to_nat i)
+            (to_nat j) < length xs = e.0 in omega arith) e.1.1
             ∙ ap (λ m. entry m products (to_nat i) (to_nat j)) (sym count);
         exponent-entry = λ i j. let e = es (to_nat i) (to_nat j) (within i) (within j) in
             same_phase i j e.0 e.1 (entry (length xs) exponents (to_nat i) (to_nat j)) e.2 e.3
@@ -206,38 +222,49 @@ module _ (group : Group) (space : IsSpaceGroup group) (k : WaveVector) (xs : Lis
       }
 
 -- a table with such lists is that of the little group
-pub table_of_lists : (group : Group) → IsSpaceGroup group → (k : WaveVector) (xs : List ℕ) → AreLittlePlaces group k xs → (h : ℕ) → h ≡ length xs → (n : ℕ) → IsOrder (stands_for group) k n
-    → (products exponents : List ℕ) → AreEntries (length xs) (IsProductEntry group xs) products → AreEntries (length xs) (IsPhaseEntry group k n xs) exponents
+pub table_of_lists : (group : Group) → IsSpaceGroup group → (k : WaveVector) (xs : List ℕ) → AreLittlePlaces group k xs → (h : ℕ) → h ≡ length xs →
+    (n : ℕ) → IsOrder (stands_for group) k n
+    → (products exponents : List ℕ) → AreEntries (length xs) (IsProductEntry group xs) products → AreEntries (length xs)
+    (IsPhaseEntry group k n xs) exponents
     → (U : PhaseTable h) → IsListed U n products exponents → IsLittleTable group k xs U
 table_of_lists group space k xs places h count n order products exponents ps es U listed = record {
   count = count;
   places = places;
   numbering = λ d. little_numbering group space k xs places h count d;
-  table = λ d. listed-same (theory group space k xs places h count d n order) n products exponents (listed_theory group space k xs places h count d n order products exponents ps es) U listed
+  table = λ d. listed-same (theory group space k xs places h count d n order) n products exponents
+      (listed_theory group space k xs places h count d n order products exponents ps es) U listed
       (sign_of group.phase) (stands_for group) k (listed_operations group h xs d) (theory_is group space k xs places h count d n order);
 }
 
-module _ (group : Group) (space : IsSpaceGroup group) (k : WaveVector) (xs : List ℕ) (places : AreLittlePlaces group k xs) (h : ℕ) (count : h ≡ length xs) (n : ℕ) (order : IsOrder (stands_for group) k n)
-    (products exponents : List ℕ) (ps : AreEntries (length xs) (IsProductEntry group xs) products) (es : AreEntries (length xs) (IsPhaseEntry group k n xs) exponents) where
+module _ (group : Group) (space : IsSpaceGroup group) (k : WaveVector) (xs : List ℕ) (places : AreLittlePlaces group k xs) (h : ℕ)
+    (count : h ≡ length xs) (n : ℕ) (order : IsOrder (stands_for group) k n)
+    (products exponents : List ℕ) (ps : AreEntries (length xs) (IsProductEntry group xs) products) (es : AreEntries (length xs)
+    (IsPhaseEntry group k n xs) exponents) where
   d : Op
   d = first_of group.ops.items (form_of group).nonempty
 
   pub lists_group : ProductGroup h (entry h products)
-  lists_group = listed-group (theory group space k xs places h count d n order) n products exponents (listed_theory group space k xs places h count d n order products exponents ps es)
+  lists_group = listed-group (theory group space k xs places h count d n order) n products exponents
+      (listed_theory group space k xs places h count d n order products exponents ps es)
 
   pub lists_inverses : HasInverses h (entry h products)
-  lists_inverses = listed-inverses (theory group space k xs places h count d n order) n products exponents (listed_theory group space k xs places h count d n order products exponents ps es)
+  lists_inverses = listed-inverses (theory group space k xs places h count d n order) n products exponents
+      (listed_theory group space k xs places h count d n order products exponents ps es)
 
   pub lists_factors : IsFactorSystem n h (entry h products) (entry h exponents)
-  lists_factors = listed-factors (theory group space k xs places h count d n order) n products exponents (listed_theory group space k xs places h count d n order products exponents ps es)
+  lists_factors = listed-factors (theory group space k xs places h count d n order) n products exponents
+      (listed_theory group space k xs places h count d n order products exponents ps es)
 
 -- a little group has the identity
 pub some_place : (group : Group) → IsSpaceGroup group → (k : WaveVector) (xs : List ℕ) → AreLittlePlaces group k xs → 0 < length xs
-some_place group space k xs places = at (first_place (little_numbering group space k xs places (length xs) refl (first_of group.ops.items (form_of group).nonempty)))
+some_place group space k xs places = at (first_place (little_numbering group space k xs places (length xs) refl (first_of group.ops.items
+    (form_of group).nonempty)))
   where
-    first_place : IsNumbering (stands_for group) (IsInLittleGroup (stands_for group) k) (listed_operations group (length xs) xs (first_of group.ops.items (form_of group).nonempty)) → Fin (length xs)
+    first_place : IsNumbering (stands_for group) (IsInLittleGroup (stands_for group) k) (listed_operations group (length xs) xs
+        (first_of group.ops.items (form_of group).nonempty)) → Fin (length xs)
     first_place numbering = let c = has_canonical group identity space.is_group.has_identity in
-        (numbering.all c.0 c.1 (little_rotation (stands_for group) space.is_group k identity c.0 (little_identity (stands_for group) space.is_group k) c.1.member c.2)).0
+        (numbering.all c.0 c.1 (little_rotation (stands_for group) space.is_group k identity c.0 (little_identity
+        (stands_for group) space.is_group k) c.1.member c.2)).0
 
     at : Fin (length xs) → 0 < length xs
     at i = let l : to_nat i < length xs = to_nat-lt i in omega arith

@@ -36,7 +36,8 @@ regroup R n q b = simp (ring_laws, R)
 
 -- the opposite quotients
 opposites : List ℤ → ℕ → List ℤ
-opposites a m = neg_ℤ (int_div_euclid (get_or a 0 (pos 0)) (pos m)) ∷ neg_ℤ (int_div_euclid (get_or a 1 (pos 0)) (pos m)) ∷ neg_ℤ (int_div_euclid (get_or a 2 (pos 0)) (pos m)) ∷ []
+opposites a m = neg_ℤ (int_div_euclid (get_or a 0 (pos 0)) (pos m)) ∷ neg_ℤ (int_div_euclid (get_or a 1 (pos 0)) (pos m)) ∷ neg_ℤ (int_div_euclid
+    (get_or a 2 (pos 0)) (pos m)) ∷ []
 
 opposites-at : (a : List ℤ) (m : ℕ) (i : Fin 3) → entry (opposites a m) i ≡ neg_ℤ (int_div_euclid (entry a i) (pos m))
 unfolding opposites to_nat
@@ -63,8 +64,10 @@ wrapped_equivalent cs list a c b m hb hm size rest = subst (IsReciprocal (Lattic
         ∙ sym (wave_component-sub (wave_of c b) (wave_of a b) i
         ∙ ap₂ (λ x y. rationals.add x (rationals.neg y)) (wave_component-wave_of c b i) (wave_component-wave_of a b i))
 
-pub wrapped_lowest : (a c : Fin 3 → ℤ) (b m n : ℕ) → AreLowest a b → 0 < m → m ≡ b * n → ((i : Fin 3) → c i ≡ int_rem_euclid (a i) (pos m)) → AreLowest c b
-wrapped_lowest a c b m n low hm size rest = lowest_shifted a (λ i. int_div_euclid (a i) (pos b) +ℤ neg_ℤ (int_div_euclid (a i) (pos m) *ℤ pos n)) c b low (λ i. step i)
+pub wrapped_lowest : (a c : Fin 3 → ℤ) (b m n : ℕ) → AreLowest a b → 0 < m → m ≡ b * n → ((i : Fin 3) → c i ≡ int_rem_euclid (a i) (pos m))
+    → AreLowest c b
+wrapped_lowest a c b m n low hm size rest = lowest_shifted a (λ i. int_div_euclid (a i) (pos b) +ℤ neg_ℤ (int_div_euclid (a i)
+    (pos m) *ℤ pos n)) c b low (λ i. step i)
   where
     numbers : (x y p q r s n b m : ℤ) → x ≡ (q *ℤ m) +ℤ y → x ≡ (p *ℤ b) +ℤ r → m ≡ b *ℤ n → y ≡ r +ℤ ((p +ℤ neg_ℤ (q *ℤ n)) *ℤ b)
     numbers x y p q r s n b m e f g =
@@ -73,8 +76,10 @@ wrapped_lowest a c b m n low hm size rest = lowest_shifted a (λ i. int_div_eucl
         let w : (q *ℤ n) *ℤ b ≡ q *ℤ m = integers.mul_assoc q n b ∙ ap (λ z. q *ℤ z) (integers.mul_comm n b ∙ sym g) in
         omega (arith, ints)
 
-    step : (i : Fin 3) → c i ≡ int_rem_euclid (a i) (pos b) +ℤ ((int_div_euclid (a i) (pos b) +ℤ neg_ℤ (int_div_euclid (a i) (pos m) *ℤ pos n)) *ℤ pos b)
-    step i = numbers (a i) (c i) (int_div_euclid (a i) (pos b)) (int_div_euclid (a i) (pos m)) (int_rem_euclid (a i) (pos b)) (pos 0) (pos n) (pos b) (pos m)
+    step : (i : Fin 3) → c i ≡ int_rem_euclid (a i) (pos b) +ℤ ((int_div_euclid (a i) (pos b) +ℤ neg_ℤ (int_div_euclid (a i)
+        (pos m) *ℤ pos n)) *ℤ pos b)
+    step i = numbers (a i) (c i) (int_div_euclid (a i) (pos b)) (int_div_euclid (a i) (pos m)) (int_rem_euclid (a i) (pos b)) (pos 0) (pos n)
+        (pos b) (pos m)
         (euclid (a i) m hm ∙ ap (λ r. (int_div_euclid (a i) (pos m) *ℤ pos m) +ℤ r) (sym (rest i))) (euclid (a i) b low.positive) (ap pos size)
 
 -- a remainder is below the divisor

@@ -15,4 +15,5 @@ use Rattle.irr_little.specs.declared.arms.Arm.{Arm}
 pub record AreArms (group : Group) (k : WaveVector) (arms : List Arm) : Type 0 where
   pub number : Fin (length arms) → Fin (length group.ops.items)
   pub number_is : (i : Fin (length arms)) (a : Arm) → to_nat (number i) ≡ (slice_index_or arms (to_nat i) a).op
-  pub star : (d : Op) (a : Arm) → IsArms (stands_for group) k (numbered group.ops.items d) (λ i. wave_vector (slice_index_or arms (to_nat i) a).wave) number
+  pub star : (d : Op) (a : Arm) → IsArms (stands_for group) k (numbered group.ops.items d)
+      (λ i. wave_vector (slice_index_or arms (to_nat i) a).wave) number

@@ -19,4 +19,5 @@ abbrev pub IsProductEntry : Group → List ℕ → ℕ → ℕ → ℕ → Type 
 IsProductEntry group xs a b x = (x < length xs) × ((t : Vector) × IsProduct group (slice_index xs a) (slice_index xs b) (slice_index xs x) t)
 
 abbrev pub IsPhaseEntry : Group → WaveVector → ℕ → List ℕ → ℕ → ℕ → ℕ → Type 0
-IsPhaseEntry group k n xs a b x = (l : ℕ) × (t : Vector) × IsProduct group (slice_index xs a) (slice_index xs b) l t × IsPhase (sign_of group.phase) n k t x
+IsPhaseEntry group k n xs a b x = (l : ℕ) × (t : Vector) × IsProduct group (slice_index xs a) (slice_index xs b) l t
+    × IsPhase (sign_of group.phase) n k t x

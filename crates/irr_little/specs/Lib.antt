@@ -1,4 +1,3 @@
-pub mod SpaceGroup
 pub mod Places
 pub mod Products
 pub mod Entries

@@ -4,7 +4,6 @@ ghost use Rattle.std.specs.List.{All, HoldsAt};
 ghost use Rattle.irr_space.specs.Reciprocal.{AreEquivalent};
 ghost use Rattle.irr_kvec.specs.WaveMeaning.{wave_vector};
 ghost use Rattle.irr_kvec.specs.Centrings.{LatticeOf, IsCentringList, IsWithinLimits};
-ghost use Rattle.irr_little.specs.SpaceGroup.{IsSpaceGroup};
 ghost use Rattle.irr_little.specs.Arms.{AreArms};
 
 use crate::places::image;
@@ -31,7 +30,6 @@ pub struct Arms {
 
 /// The star of a wave vector (Bradley and Cracknell, section 3.3). The error is want of memory.
 pub fn star(alloc: Global, group: &Group, k: &Wave) -> Result<Arms, Memory>
-    requires space { IsSpaceGroup group.now }
     requires limits { IsWithinLimits k.now }
     ensures { IfOk result (λ star. AreArms group.now (wave_vector k.now) star.arms.items) }
 {

@@ -5,14 +5,12 @@ ghost use Rattle.std.specs.Prelude.{◌≡◌};
 ghost use Rattle.irr_little.specs.declared.LittleError.TheVariants.{Memory};
 
 mod arms;
-mod laws;
 mod phase;
 mod places;
 mod product;
 mod table;
 
 pub use arms::{Arm, Arms, star};
-pub use laws::space_groups;
 pub use phase::theta;
 pub use places::little_places;
 pub use table::little;
@@ -36,3 +34,6 @@ impl From<irr_memory::Memory> for LittleError {
         LittleError::Memory
     }
 }
+
+#[cfg(test)]
+mod tests;

@@ -10,7 +10,6 @@ ghost use Rattle.irr_seitz.specs.OperationMeaning.{operation};
 ghost use Rattle.irr_kvec.specs.WaveMeaning.{wave_vector};
 ghost use Rattle.irr_kvec.specs.Centrings.{LatticeOf, IsCentringList, IsWithinLimits};
 ghost use Rattle.irr_close.specs.StandsFor.{stands_for};
-ghost use Rattle.irr_little.specs.SpaceGroup.{IsSpaceGroup};
 ghost use Rattle.irr_little.specs.Places.{IsLittlePlace, AreLittlePlaces};
 
 use irr_close::Group;
@@ -22,7 +21,6 @@ use std::alloc::Global;
 /// The numbers, among `Group::ops`, of the operations of the little group of a wave vector, in increasing
 /// order. The error is want of memory.
 pub fn little_places(alloc: Global, group: &Group, k: &Wave) -> Result<Vec<u32>, Memory>
-    requires space { IsSpaceGroup group.now }
     requires limits { IsWithinLimits k.now }
     ensures { IfOk result (λ places. AreLittlePlaces group.now (wave_vector k.now) places.items) }
 {
@@ -37,7 +35,6 @@ pub fn little_places(alloc: Global, group: &Group, k: &Wave) -> Result<Vec<u32>,
 
 // Whether the rotation of an operation takes a wave vector to an equivalent one.
 fn keeps(group: &Group, place: usize, k: &Wave) -> bool
-    requires space { IsSpaceGroup group.now }
     requires limits { IsWithinLimits k.now }
     requires place { place < length group.now.ops.items }
     ensures { IsTrue result ↔ IsLittlePlace group.now (wave_vector k.now) place }
@@ -47,7 +44,6 @@ fn keeps(group: &Group, place: usize, k: &Wave) -> bool
 
 /// A wave vector to which the operation with the number `place` carries `k`.
 pub(crate) fn image(group: &Group, place: usize, k: &Wave) -> Wave
-    requires space { IsSpaceGroup group.now }
     requires limits { IsWithinLimits k.now }
     requires place { place < length group.now.ops.items }
     ensures carries { HoldsAt (λ g. Carries (stands_for group.now) (operation g) (wave_vector k.now) (wave_vector result)) group.now.ops.items place }

@@ -3,7 +3,6 @@ ghost use Rattle.std.specs.Prelude.{◌≡◌, ◌<◌, ◌^◌, length};
 ghost use Rattle.irr_algebra.specs.Matrix.{◌⊖◌};
 ghost use Rattle.irr_rat.specs.VectorMeaning.{vector, Fits};
 ghost use Rattle.irr_seitz.specs.OperationMeaning.{operation, AreWithin};
-ghost use Rattle.irr_little.specs.SpaceGroup.{IsSpaceGroup};
 ghost use Rattle.irr_little.specs.Products.{IsProduct};
 
 use irr_close::Group;
@@ -19,7 +18,6 @@ pub(crate) struct Shifted {
 
 /// The product of the canonical operations with two numbers.
 pub(crate) fn product(group: &Group, i: usize, j: usize) -> Shifted
-    requires space { IsSpaceGroup group.now }
     requires left { i < length group.now.ops.items }
     requires right { j < length group.now.ops.items }
     ensures product { IsProduct group.now i j result.op (vector result.shift) }

@@ -8,7 +8,6 @@ ghost use Rattle.irr_rep.specs.Twisted.{phase_table, operation_places};
 ghost use Rattle.irr_kvec.specs.WaveMeaning.{wave_vector};
 ghost use Rattle.irr_kvec.specs.Centrings.{IsWithinLimits};
 ghost use Rattle.irr_close.specs.StandsFor.{stands_for};
-ghost use Rattle.irr_little.specs.SpaceGroup.{IsSpaceGroup};
 ghost use Rattle.irr_little.specs.Places.{AreLittlePlaces};
 ghost use Rattle.irr_little.specs.Table.{IsLittleTable, IsLittleRefusal};
 ghost use Rattle.irr_little.specs.Entries.{AreClosed, IsProductEntry, IsPhaseEntry};
@@ -29,7 +28,6 @@ use std::alloc::Global;
 /// The order of z is the exponent of the group times the period of the wave vector. The places are the
 /// numbers of the operations in `Group::ops`.
 pub fn little(alloc: Global, group: &Group, k: &Wave) -> Result<Twisted, LittleError>
-    requires space { IsSpaceGroup group.now }
     requires limits { IsWithinLimits k.now }
     ensures table { IfOk result (λ t. IsLittleTable group.now (wave_vector k.now) (operation_places t) (phase_table t)) }
     ensures accepted { IfOk result (λ t. (phase_table t).order ≤ ORDER_LIMIT) }
@@ -46,7 +44,6 @@ pub fn little(alloc: Global, group: &Group, k: &Wave) -> Result<Twisted, LittleE
 
 // The exponent of the group times the period of the wave vector.
 fn order(group: &Group, k: &Wave) -> u64
-    requires space { IsSpaceGroup group.now }
     requires limits { IsWithinLimits k.now }
     ensures { IsOrder (stands_for group.now) (wave_vector k.now) result }
 {
@@ -61,7 +58,6 @@ fn table(
     order: u32,
     places: Vec<u32>,
 ) -> Result<Twisted, Memory>
-    requires space { IsSpaceGroup group.now }
     requires limits { IsWithinLimits k.now }
     requires order { IsOrder (stands_for group.now) (wave_vector k.now) order }
     requires within { order ≤ ORDER_LIMIT }
@@ -76,7 +72,6 @@ fn table(
 
 // The products, as positions among the places, row by row.
 fn products(alloc: Global, group: &Group, places: &[u32]) -> Result<Vec<u32>, Memory>
-    requires space { IsSpaceGroup group.now }
     requires closed { AreClosed group.now places.now }
     ensures full { IfOk result (λ v. length v.items ≡ length places.now * length places.now) }
     ensures entries { IfOk result (λ v. AreEntries (length places.now) (IsProductEntry group.now places.now) v.items) }
@@ -99,7 +94,6 @@ fn exponents(
     order: u32,
     places: &[u32],
 ) -> Result<Vec<u32>, Memory>
-    requires space { IsSpaceGroup group.now }
     requires limits { IsWithinLimits k.now }
     requires order { IsOrder (stands_for group.now) (wave_vector k.now) order }
     requires within { order ≤ ORDER_LIMIT }

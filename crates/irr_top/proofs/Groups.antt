@@ -1,11 +1,9 @@
 -- What is known of the group of generators that can be read, at a wave vector.
---   is_group, has_canonical, centrings_of, centring_list, numbering_of    it is a group with canonical operations, a numbering and centrings
---   unimodular_of           its canonical operations have the determinant 1 or -1
+--   is_group, has_canonical, centrings_of, numbering_of    it is a group with canonical operations, a numbering and centrings
 --   order_of                the order of a wave vector
 --   kept                    the test of an operation by where it carries the wave vector
 --   order_at, numbering_at  equivalent wave vectors have one order, and one little group
-use Rattle.std.proofs.Common.{◌≡◌, sym, ◌∙◌, ap, ap₂, subst, ℕ, ◌*◌, ◌↔◌, List, pos, length, get_or, unsigned_abs}
-use Rattle.std.specs.List.{All}
+use Rattle.std.proofs.Common.{◌≡◌, sym, ◌∙◌, ap, ap₂, subst, ℕ, ◌*◌, ◌↔◌, List, pos, length}
 use Rattle.std.specs.Prelude.{IsTrue, Bool}
 use Rattle.irr_algebra.specs.Fin.{Fin}
 use Rattle.irr_algebra.specs.Matrix.{◌⊖◌}
@@ -21,16 +19,14 @@ use Rattle.irr_space.specs.Reciprocal.{IsReciprocal, AreEquivalent, IsPeriod, Is
 use Rattle.irr_space.specs.CanonicalOperation.{IsNumbering}
 use Rattle.irr_space.specs.Star.{IsInLittleGroup}
 use Rattle.irr_seitz.specs.OperationMeaning.{operation}
-use Rattle.irr_seitz.specs.Rotation.{determinant}
 use Rattle.irr_seitz.specs.declared.op.Op.{Op}
-use Rattle.irr_kvec.specs.Centrings.{LatticeOf, AreCentrings, IsCentringList}
+use Rattle.irr_kvec.specs.Centrings.{LatticeOf, AreCentrings}
 use Rattle.irr_kvec.proofs.GroupLattices.{reciprocal_same, reduced_in_group, period_in_group}
-use Rattle.irr_kvec.proofs.CentringLists.{are_centring_list}
 use Rattle.irr_cocycle.specs.SpaceGroupLaws.{IsGroup, HasCanonical}
 use Rattle.irr_cocycle.proofs.Operations.{turned-op, turned-identity, dot-sub, dot-times}
 use Rattle.irr_cocycle.proofs.Reciprocals.{equivalent_sym, equivalent_trans, equivalent-turned, little_inverse}
 use Rattle.irr_close.specs.Limits.{operations}
-use Rattle.irr_close.specs.Canonical.{AreCanonical, IsRotationGroup, numbered}
+use Rattle.irr_close.specs.Canonical.{AreCanonical, numbered}
 use Rattle.irr_close.specs.Standing.{StandFor}
 use Rattle.irr_close.specs.StandsFor.{stands_for}
 use Rattle.irr_close.specs.declared.group.Group.{Group}
@@ -41,15 +37,9 @@ use Rattle.irr_close.proofs.Unimodular.{are_invertible}
 use Rattle.irr_close.proofs.Untruncated.{untruncated}
 use Rattle.irr_top.specs.GroupOf.{IsGroupOf, group_of}
 use Rattle.irr_top.proofs.Numerators.{readable_unimodular}
-use Rattle.irr_top.proofs.Determinants.{unimodular_of_inverse}
 
 pub form_of : (group : Group) → AreCanonical group.ops.items group.centrings.items
 form_of group = untruncated group.ops.items group.centrings.items group.form
-
--- the canonical operations have rotations with inverses
-pub unimodular_of : (ops : List Op) → IsRotationGroup ops → All (λ g. unsigned_abs (determinant (operation g).rotation) ≡ 1) ops
-unimodular_of ops r k d l = let t = r.inverses k d l in unimodular_of_inverse (operation (get_or ops k d)).rotation
-    (operation (get_or ops t.0 d)).rotation (t.2 d)
 
 module _ (group : Group) (gens : List Op) (h : IsGroupOf group gens) where
   pub is_group : IsGroup (group_of gens)
@@ -71,9 +61,6 @@ module _ (group : Group) (gens : List Op) (h : IsGroupOf group gens) where
   unfolding stands_for
   centrings_of = centrings_along (StandFor group.ops.items group.centrings.items) (group_of gens) h.stands group.centrings.items
       (form_of group).centrings
-
-  pub centring_list : IsCentringList group.centrings.items
-  centring_list = are_centring_list (operations gens) group.centrings.items centrings_of (form_of group).few_centrings
 
   pub numbering_of : (d : Op) → IsNumbering (group_of gens) (λ _. Unit {0}) (numbered group.ops.items d)
   unfolding stands_for

@@ -5,7 +5,6 @@ pub mod OneAnswer
 pub mod InputBytes
 pub mod Reading
 pub mod Numerators
-pub mod Determinants
 pub mod Groups
 pub mod Picking
 pub mod CoGroups

@@ -1,7 +1,9 @@
 use Rattle.std.proofs.Common.{◌≡◌, ◌↔◌, sym, subst, true, length, rules}
 use Rattle.std.specs.List.{All, HoldsAt}
 use Rattle.irr_algebra.specs.Matrix.{◌·◌}
+use Rattle.irr_space.specs.SpaceGroup.{Generated}
 use Rattle.irr_seitz.specs.OperationMeaning.{operation}
+use Rattle.irr_close.specs.Limits.{operations}
 use Rattle.irr_close.specs.Closing.{IsKept, HasRotation, AreSeeds}
 use Rattle.irr_close.specs.Centring.{IsSettled}
 use Rattle.irr_close.specs.Standing.{StandFor}
@@ -100,8 +102,8 @@ returns-in_err-centrings-clause-refused c =
     c.in_err-centrings.ensures.refused in
     search rules
 
-pub new-requires : goal.new-requires
-new-requires c = subst (λ xs. IsClosing xs c.in_ok-centrings.centrings.items) (sym c.as_slice.ensures.value)
+pub new-requires-clause-closing : goal.new-requires-clause-closing
+new-requires-clause-closing c = subst (λ xs. IsClosing xs c.in_ok-centrings.centrings.items) (sym c.as_slice.ensures.value)
     (is_closing c.args.generators.now c.deref-2.result.now c.in_ok-ops.ops.items c.in_ok-centrings.centrings.items
     (are_invertible c.args.generators.now c.requires.unimodular)
     (subst (λ xs. AreSeeds c.args.generators.now xs (length c.args.generators.now)) (sym c.deref-2.ensures.value) c.in_ok-seeds.ensures.seeds)
@@ -109,6 +111,19 @@ new-requires c = subst (λ xs. IsClosing xs c.in_ok-centrings.centrings.items) (
     (subst (λ xs. IsSettled c.args.generators.now xs c.in_ok-centrings.centrings.items (length c.in_ok-centrings.centrings.items))
     c.deref-3.ensures.value c.in_ok-centrings.ensures.settled)
     (c.have_small_denominator.ensures.0 (let t : c.have_small_denominator.result ≡ true = c.if-not-have_small_denominator.false in t)))
+
+pub new-requires-clause-generated : goal.new-requires-clause-generated
+new-requires-clause-generated c = record {
+  generators = operations c.args.generators.now;
+  same = λ g. subst (λ xs. StandFor xs c.in_ok-centrings.centrings.items g ↔ Generated (operations c.args.generators.now) g)
+      (sym c.as_slice.ensures.value)
+      (group_stands c.args.generators.now c.deref-2.result.now c.in_ok-ops.ops.items c.in_ok-centrings.centrings.items
+      (are_invertible c.args.generators.now c.requires.unimodular)
+      (subst (λ xs. AreSeeds c.args.generators.now xs (length c.args.generators.now)) (sym c.deref-2.ensures.value) c.in_ok-seeds.ensures.seeds)
+      c.in_ok-ops.ensures.partial c.in_ok-ops.ensures.products c.in_ok-centrings.ensures.lattice
+      (subst (λ xs. IsSettled c.args.generators.now xs c.in_ok-centrings.centrings.items (length c.in_ok-centrings.centrings.items))
+      c.deref-3.ensures.value c.in_ok-centrings.ensures.settled) g);
+}
 
 pub returns-clause-group : goal.returns-clause-group
 returns-clause-group c = λ g.

@@ -9,7 +9,9 @@ use Rattle.irr_little.proofs.Phases.{phase_of_turns}
 use Rattle.irr_little.proofs.phase.theta.Goals as goal
 
 pub returns : goal.returns
-returns c = phase_of_turns (sign_of c.args.group.now.phase) c.args.n (wave_vector c.args.w.now) (vector c.args.v.now) c.turns.result c.signed.result c.remainder.result
+returns c = phase_of_turns (sign_of c.args.group.now.phase) c.args.n (wave_vector c.args.w.now)
+    (vector c.args.v.now) c.turns.result c.signed.result c.remainder.result
     c.requires.positive c.turns.ensures.value
-    (c.signed.ensures.value ∙ ap₂ (λ p q. sign_number (sign_of p) *ℤ q) c.phase.ensures (to_z-of_z w128 c.turns.result (record { sfits = c.turns.type_inv })))
+    (c.signed.ensures.value ∙ ap₂ (λ p q. sign_number (sign_of p) *ℤ q) c.phase.ensures (to_z-of_z w128 c.turns.result
+    (record { sfits = c.turns.type_inv })))
     (c.remainder.ensures ∙ ap (λ y. int_rem_euclid y (pos c.args.n)) (to_z-of_z w128 c.signed.result (record { sfits = c.signed.type_inv })))

@@ -6,14 +6,19 @@ use Rattle.irr_little.proofs.places.little_places.Goals as goal
 use Rattle.irr_little.proofs.places.little_places.Goals.{then-keeps+in_ok-push, else-keeps}
 
 pub loop-place-init : goal.loop-place-init
-loop-place-init c = subst (AreListed (IsLittlePlace c.args.group.now (wave_vector c.args.k.now)) 0) (sym c.new-places.ensures.items) (listed-none (IsLittlePlace c.args.group.now (wave_vector c.args.k.now)))
+loop-place-init c = subst (AreListed (IsLittlePlace c.args.group.now (wave_vector c.args.k.now)) 0) (sym c.new-places.ensures.items) (listed-none
+    (IsLittlePlace c.args.group.now (wave_vector c.args.k.now)))
 
 pub loop-place-preserved : goal.loop-place-preserved
 loop-place-preserved c = elim c.if-keeps.branch [
-  | then-keeps+in_ok-push w ↦ subst (λ v. AreListed (IsLittlePlace c.args.group.now (wave_vector c.args.k.now)) (c.loop-place.place + 1) v) (sym (ap (λ v. v.items) w.places-is ∙ w.in_ok-push.ensures.items))
-      (listed-push (IsLittlePlace c.args.group.now (wave_vector c.args.k.now)) c.loop-place.places.items c.loop-place.place c.loop-place.invariant (c.keeps.ensures.0 w.if-keeps.true))
-  | else-keeps w ↦ subst (λ v. AreListed (IsLittlePlace c.args.group.now (wave_vector c.args.k.now)) (c.loop-place.place + 1) v) (sym (ap (λ v. v.items) w.places-is))
-      (listed-skip (IsLittlePlace c.args.group.now (wave_vector c.args.k.now)) c.loop-place.places.items c.loop-place.place c.loop-place.invariant (λ h. cc (c.keeps.ensures.1 h, w.if-keeps.false)))
+  | then-keeps+in_ok-push w ↦ subst (λ v. AreListed (IsLittlePlace c.args.group.now (wave_vector c.args.k.now)) (c.loop-place.place + 1) v) (sym (ap
+      (λ v. v.items) w.places-is ∙ w.in_ok-push.ensures.items))
+      (listed-push (IsLittlePlace c.args.group.now (wave_vector c.args.k.now)) c.loop-place.places.items c.loop-place.place c.loop-place.invariant
+      (c.keeps.ensures.0 w.if-keeps.true))
+  | else-keeps w ↦ subst (λ v. AreListed (IsLittlePlace c.args.group.now (wave_vector c.args.k.now)) (c.loop-place.place + 1) v) (sym (ap
+      (λ v. v.items) w.places-is))
+      (listed-skip (IsLittlePlace c.args.group.now (wave_vector c.args.k.now)) c.loop-place.places.items c.loop-place.place c.loop-place.invariant
+      (λ h. cc (c.keeps.ensures.1 h, w.if-keeps.false)))
 ]
 
 pub returns : goal.returns

@@ -18,10 +18,12 @@ cell-requires-clause-few c = c.requires.centrings.few
 
 pub invariant_of-result : goal.invariant_of-result
 invariant_of-result c = record {
-  lowest = wrapped_lowest (entry c.args.k.now.num) (entry c.rests-num.result) c.args.k.now.den c.cell.result (length c.args.centrings.now) c.args.k.now.lowest
+  lowest = wrapped_lowest (entry c.args.k.now.num) (entry c.rests-num.result) c.args.k.now.den c.cell.result
+      (length c.args.centrings.now) c.args.k.now.lowest
       c.cell.ensures.positive c.cell.ensures.value c.rests-num.ensures.value;
 }
 
 pub returns-clause-equivalent : goal.returns-clause-equivalent
-returns-clause-equivalent c = wrapped_equivalent c.args.centrings.now c.requires.centrings c.args.k.now.num c.rests-num.result c.args.k.now.den c.cell.result c.args.k.now.lowest.positive
+returns-clause-equivalent c = wrapped_equivalent c.args.centrings.now c.requires.centrings c.args.k.now.num c.rests-num.result c.args.k.now.den
+    c.cell.result c.args.k.now.lowest.positive
     c.cell.ensures.positive c.cell.ensures.value c.rests-num.ensures.value

@@ -10,6 +10,7 @@ use Rattle.irr_cocycle.proofs.Operations.{translation_between}
 use Rattle.irr_close.specs.StandsFor.{stands_for}
 use Rattle.irr_little.proofs.Spaces.{canonical_at}
 use Rattle.irr_little.proofs.Shifts.{small_pair, numbers_at, fits_shift, small_shift}
+use Rattle.irr_close.proofs.SpaceGroups.{space_group}
 use Rattle.irr_little.proofs.product.product.Goals as goal
 
 some_of : (b : Bool) → (b ≡ false → ⊥) → b ≡ true
@@ -24,29 +25,39 @@ in_length : (xs ys : List Op) → xs ≡ ys → (i : ℕ) → i < length ys → 
 in_length xs ys e i l = subst (λ (zs : List Op). i < length zs) (sym e) l
 
 pub compose-both-requires-clause-denominator : goal.compose-both-requires-clause-denominator
-compose-both-requires-clause-denominator c = λ m h. small_pair c.ops-ops.result.now c.args.group.now.centrings.items c.ops-ops.ensures.canonical c.args.i c.index-ops-i.result
-    (in_length c.ops-ops.result.now c.args.group.now.ops.items c.ops-ops.ensures.list c.args.i c.requires.left) c.index-ops-i.is c.args.j c.index-ops-j.result
+compose-both-requires-clause-denominator c = λ m h. small_pair c.ops-ops.result.now c.args.group.now.centrings.items c.ops-ops.ensures.canonical
+    c.args.i c.index-ops-i.result
+    (in_length c.ops-ops.result.now c.args.group.now.ops.items c.ops-ops.ensures.list c.args.i c.requires.left) c.index-ops-i.is c.args.j
+    c.index-ops-j.result
     (in_length c.ops-ops.result.now c.args.group.now.ops.items c.ops-ops.ensures.list c.args.j c.requires.right) c.index-ops-j.is m h
 
 pub compose-both-requires-clause-numerators : goal.compose-both-requires-clause-numerators
-compose-both-requires-clause-numerators c = numbers_at c.ops-ops.result.now c.args.group.now.centrings.items c.ops-ops.ensures.canonical c.args.i c.index-ops-i.result
+compose-both-requires-clause-numerators c = numbers_at c.ops-ops.result.now c.args.group.now.centrings.items c.ops-ops.ensures.canonical c.args.i
+    c.index-ops-i.result
     (in_length c.ops-ops.result.now c.args.group.now.ops.items c.ops-ops.ensures.list c.args.i c.requires.left) c.index-ops-i.is
 
 pub compose-both-requires-clause-other_numerators : goal.compose-both-requires-clause-other_numerators
-compose-both-requires-clause-other_numerators c = numbers_at c.ops-ops.result.now c.args.group.now.centrings.items c.ops-ops.ensures.canonical c.args.j c.index-ops-j.result
+compose-both-requires-clause-other_numerators c = numbers_at c.ops-ops.result.now c.args.group.now.centrings.items c.ops-ops.ensures.canonical
+    c.args.j c.index-ops-j.result
     (in_length c.ops-ops.result.now c.args.group.now.ops.items c.ops-ops.ensures.list c.args.j c.requires.right) c.index-ops-j.is
 
 pub unwrap-op-requires : goal.unwrap-op-requires
 unwrap-op-requires c = some_of (is_some c.canonical.result) (λ e. c.canonical.ensures.none.0 e (operation c.compose-both.result)
-    (subst (stands_for c.args.group.now) (sym c.compose-both.ensures) (c.requires.space.is_group.has_product (operation c.index-ops-i.result) (operation c.index-ops-j.result)
-    (subst (λ (g : Op). stands_for c.args.group.now (operation g)) (sym (in_list c.ops-ops.result.now c.args.group.now.ops.items c.ops-ops.ensures.list c.args.i c.index-ops-i.result c.index-ops-i.is))
+    (subst (stands_for c.args.group.now) (sym c.compose-both.ensures)
+    ((space_group c.args.group.now).is_group.has_product (operation c.index-ops-i.result)
+    (operation c.index-ops-j.result)
+    (subst (λ (g : Op). stands_for c.args.group.now (operation g)) (sym
+    (in_list c.ops-ops.result.now c.args.group.now.ops.items c.ops-ops.ensures.list c.args.i c.index-ops-i.result c.index-ops-i.is))
     (canonical_at c.args.group.now c.index-ops-i.result c.args.i c.requires.left).member)
-    (subst (λ (g : Op). stands_for c.args.group.now (operation g)) (sym (in_list c.ops-ops.result.now c.args.group.now.ops.items c.ops-ops.ensures.list c.args.j c.index-ops-j.result c.index-ops-j.is))
+    (subst (λ (g : Op). stands_for c.args.group.now (operation g)) (sym
+    (in_list c.ops-ops.result.now c.args.group.now.ops.items c.ops-ops.ensures.list c.args.j c.index-ops-j.result c.index-ops-j.is))
     (canonical_at c.args.group.now c.index-ops-j.result c.args.j c.requires.right).member))) refl)
 
 pub difference-shift-requires : goal.difference-shift-requires
-difference-shift-requires c = fits_shift c.ops-ops.result.now c.args.group.now.centrings.items c.ops-ops.ensures.canonical c.args.i c.index-ops-i.result
-    (in_length c.ops-ops.result.now c.args.group.now.ops.items c.ops-ops.ensures.list c.args.i c.requires.left) c.index-ops-i.is c.args.j c.index-ops-j.result
+difference-shift-requires c = fits_shift c.ops-ops.result.now c.args.group.now.centrings.items c.ops-ops.ensures.canonical c.args.i
+    c.index-ops-i.result
+    (in_length c.ops-ops.result.now c.args.group.now.ops.items c.ops-ops.ensures.list c.args.i c.requires.left) c.index-ops-i.is c.args.j
+    c.index-ops-j.result
     (in_length c.ops-ops.result.now c.args.group.now.ops.items c.ops-ops.ensures.list c.args.j c.requires.right) c.index-ops-j.is
     c.compose-both.result c.compose-both.ensures c.unwrap-op.result c.index-ops-place.result
     (in_length c.ops-ops.result.now c.args.group.now.ops.items c.ops-ops.ensures.list c.unwrap-op.result
@@ -54,7 +65,8 @@ difference-shift-requires c = fits_shift c.ops-ops.result.now c.args.group.now.c
 
 pub returns-clause-small : goal.returns-clause-small
 returns-clause-small c = small_shift c.ops-ops.result.now c.args.group.now.centrings.items c.ops-ops.ensures.canonical c.args.i c.index-ops-i.result
-    (in_length c.ops-ops.result.now c.args.group.now.ops.items c.ops-ops.ensures.list c.args.i c.requires.left) c.index-ops-i.is c.args.j c.index-ops-j.result
+    (in_length c.ops-ops.result.now c.args.group.now.ops.items c.ops-ops.ensures.list c.args.i c.requires.left) c.index-ops-i.is c.args.j
+    c.index-ops-j.result
     (in_length c.ops-ops.result.now c.args.group.now.ops.items c.ops-ops.ensures.list c.args.j c.requires.right) c.index-ops-j.is
     c.compose-both.result c.compose-both.ensures c.unwrap-op.result c.index-ops-place.result
     (in_length c.ops-ops.result.now c.args.group.now.ops.items c.ops-ops.ensures.list c.unwrap-op.result
@@ -64,16 +76,21 @@ returns-clause-small c = small_shift c.ops-ops.result.now c.args.group.now.centr
 pub returns-clause-product : goal.returns-clause-product
 returns-clause-product c = record {
   below = within;
-  is = λ d. ap₂ (λ (g h : Op). operation g ⊙ operation h) (sym (at c.args.i c.index-ops-i.result d c.requires.left c.index-ops-i.is)) (sym (at c.args.j c.index-ops-j.result d c.requires.right c.index-ops-j.is))
+  is = λ d. ap₂ (λ (g h : Op). operation g ⊙ operation h) (sym (at c.args.i c.index-ops-i.result d c.requires.left c.index-ops-i.is)) (sym
+      (at c.args.j c.index-ops-j.result d c.requires.right c.index-ops-j.is))
       ∙ sym c.compose-both.ensures
       ∙ translation_between (operation c.compose-both.result) (operation (get_or c.args.group.now.ops.items c.unwrap-op.result d))
-      (sym (subst (λ r. IfSome r (λ k. HoldsAt (λ g. (operation g).rotation ≡ rotation_of c.compose-both.result.rot) c.args.group.now.ops.items k)) c.unwrap-op.ensures c.canonical.ensures.found d))
+      (sym (subst (λ r. IfSome r (λ k. HoldsAt (λ g.
+      (operation g).rotation ≡ rotation_of c.compose-both.result.rot) c.args.group.now.ops.items k)) c.unwrap-op.ensures
+      c.canonical.ensures.found d))
       ∙ ap (λ t. translation t ⊙ operation (get_or c.args.group.now.ops.items c.unwrap-op.result d))
-      (sym (c.difference-shift.ensures ∙ ap (λ (g : Op). (operation c.compose-both.result).vector ⊖ (operation g).vector) (at c.unwrap-op.result c.index-ops-place.result d within c.index-ops-place.is)));
+      (sym (c.difference-shift.ensures ∙ ap (λ (g : Op). (operation c.compose-both.result).vector ⊖ (operation g).vector)
+      (at c.unwrap-op.result c.index-ops-place.result d within c.index-ops-place.is)));
 }
   where
     within : c.unwrap-op.result < length c.args.group.now.ops.items
     within = subst (λ r. IfSome r (λ k. k < length c.args.group.now.ops.items)) c.unwrap-op.ensures c.canonical.ensures.within
 
     at : (i : ℕ) (g d : Op) → i < length c.args.group.now.ops.items → g ≡ get_or c.ops-ops.result.now i g → g ≡ get_or c.args.group.now.ops.items i d
-    at i g d l e = in_list c.ops-ops.result.now c.args.group.now.ops.items c.ops-ops.ensures.list i g e ∙ get_or_default c.args.group.now.ops.items i g d l
+    at i g d l e = in_list c.ops-ops.result.now c.args.group.now.ops.items c.ops-ops.ensures.list i g e
+        ∙ get_or_default c.args.group.now.ops.items i g d l

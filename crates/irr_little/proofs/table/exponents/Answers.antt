@@ -12,16 +12,20 @@ use Rattle.irr_close.proofs.Bareness.{first_of}
 use Rattle.irr_little.specs.Entries.{IsPhaseEntry}
 use Rattle.irr_little.proofs.Spaces.{form_of, canonical_at}
 use Rattle.irr_little.proofs.Tables.{product_translation, turns_whole}
+use Rattle.irr_close.proofs.SpaceGroups.{space_group}
 use Rattle.irr_little.proofs.table.exponents.Goals as goal
 
 pub product-both-requires-clause-left : goal.product-both-requires-clause-left
-product-both-requires-clause-left c = c.requires.closed.below (slice_index c.args.places.now c.loop-i.i-index) (Contains-get_or c.args.places.now c.loop-i.i-index 0 c.loop-i-test.true)
+product-both-requires-clause-left c = c.requires.closed.below (slice_index c.args.places.now c.loop-i.i-index)
+    (Contains-get_or c.args.places.now c.loop-i.i-index 0 c.loop-i-test.true)
 
 pub product-both-requires-clause-right : goal.product-both-requires-clause-right
-product-both-requires-clause-right c = c.requires.closed.below (slice_index c.args.places.now c.loop-j.j-index) (Contains-get_or c.args.places.now c.loop-j.j-index 0 c.loop-j-test.true)
+product-both-requires-clause-right c = c.requires.closed.below (slice_index c.args.places.now c.loop-j.j-index)
+    (Contains-get_or c.args.places.now c.loop-j.j-index 0 c.loop-j-test.true)
 
 pub theta-requires-clause-positive : goal.theta-requires-clause-positive
-theta-requires-clause-positive c = order-positive (stands_for c.args.group.now) (sign_of c.args.group.now.phase) (wave_vector c.args.k.now) c.args.order c.requires.order
+theta-requires-clause-positive c = order-positive (stands_for c.args.group.now) (sign_of c.args.group.now.phase)
+    (wave_vector c.args.k.now) c.args.order c.requires.order
 
 pub theta-requires-clause-whole : goal.theta-requires-clause-whole
 theta-requires-clause-whole c =
@@ -30,7 +34,8 @@ theta-requires-clause-whole c =
     let j = slice_index c.args.places.now c.loop-j.j-index in
     let d = first_of group.ops.items (form_of group).nonempty in
     turns_whole (stands_for group) (wave_vector c.args.k.now) c.args.order c.requires.order (vector c.product-both.result.shift)
-    (product_translation (stands_for group) c.requires.space.is_group (operation (get_or group.ops.items i d)) (operation (get_or group.ops.items j d)) (operation (get_or group.ops.items c.product-both.result.op d))
+    (product_translation (stands_for group) (space_group c.args.group.now).is_group (operation (get_or group.ops.items i d)) (operation
+    (get_or group.ops.items j d)) (operation (get_or group.ops.items c.product-both.result.op d))
     (vector c.product-both.result.shift)
     (canonical_at group d i (c.requires.closed.below i (Contains-get_or c.args.places.now c.loop-i.i-index 0 c.loop-i-test.true))).member
     (canonical_at group d j (c.requires.closed.below j (Contains-get_or c.args.places.now c.loop-j.j-index 0 c.loop-j-test.true))).member
@@ -42,11 +47,13 @@ loop-j-preserved c =
     let places = c.args.places.now in
     let k = wave_vector c.args.k.now in
     let x = c.theta.result in
-    let longer : length c.push.new.self.items ≡ length c.loop-j.exponents.items + 1 = ap length c.in_ok-push.ensures.items ∙ length-append c.loop-j.exponents.items (x ∷ []) in
+    let longer : length c.push.new.self.items ≡ length c.loop-j.exponents.items + 1 = ap length c.in_ok-push.ensures.items
+    ∙ length-append c.loop-j.exponents.items (x ∷ []) in
     record {
       count = omega (arith, longer, c.loop-j.invariant.count);
       rows = subst (FilledRows (length places) (IsPhaseEntry c.args.group.now k c.args.order places)) (sym c.in_ok-push.ensures.items)
-          (filled-push (length places) (IsPhaseEntry c.args.group.now k c.args.order places) c.loop-j.exponents.items c.loop-i.i-index c.loop-j.j-index x
+          (filled-push (length places)
+          (IsPhaseEntry c.args.group.now k c.args.order places) c.loop-j.exponents.items c.loop-i.i-index c.loop-j.j-index x
           c.loop-j.invariant.rows c.loop-j.invariant.count c.loop-j-test.true
           (c.product-both.result.op, vector c.product-both.result.shift, c.product-both.ensures.product, c.theta.ensures));
     }
@@ -55,5 +62,6 @@ pub returns-clause-entries : goal.returns-clause-entries
 returns-clause-entries c =
     let places = c.args.places.now in
     let done : c.loop-i.i-index ≡ length places = omega arith in
-    filled-entries (length places) (IsPhaseEntry c.args.group.now (wave_vector c.args.k.now) c.args.order places) c.loop-i.exponents.items c.loop-i.invariant.rows
+    filled-entries (length places) (IsPhaseEntry c.args.group.now
+    (wave_vector c.args.k.now) c.args.order places) c.loop-i.exponents.items c.loop-i.invariant.rows
     (c.loop-i.invariant.count ∙ ap (λ k. k * length places) done)

@@ -11,15 +11,21 @@ use Rattle.irr_close.specs.StandsFor.{stands_for}
 use Rattle.irr_little.specs.Entries.{AreClosed, IsProductEntry, IsPhaseEntry}
 use Rattle.irr_little.specs.Table.{IsLittleTable}
 use Rattle.irr_little.proofs.Tables.{closed_places, some_place, lists_group, lists_inverses, lists_factors, table_of_lists}
+use Rattle.irr_close.proofs.SpaceGroups.{space_group}
 use Rattle.irr_little.proofs.table.table.Goals as goal
 
-pub products-requires-clause-closed : goal.products-requires-clause-closed
-products-requires-clause-closed c = subst (AreClosed c.args.group.now) (sym c.deref.ensures.value) (closed_places c.args.group.now c.requires.space (wave_vector c.args.k.now) c.args.places.items c.requires.places)
+pub products-requires : goal.products-requires
+products-requires c = record {
+  closed = subst (AreClosed c.args.group.now) (sym c.deref.ensures.value)
+      (closed_places c.args.group.now (space_group c.args.group.now) (wave_vector c.args.k.now) c.args.places.items c.requires.places);
+}
 
 pub exponents-requires-clause-closed : goal.exponents-requires-clause-closed
-exponents-requires-clause-closed c = subst (AreClosed c.args.group.now) (sym c.deref-2.ensures.value) (closed_places c.args.group.now c.requires.space (wave_vector c.args.k.now) c.args.places.items c.requires.places)
+exponents-requires-clause-closed c = subst (AreClosed c.args.group.now) (sym c.deref-2.ensures.value)
+    (closed_places c.args.group.now (space_group c.args.group.now) (wave_vector c.args.k.now) c.args.places.items c.requires.places)
 
-products_in : (group : Group) (xs ys zs : List ℕ) → xs ≡ ys → AreEntries (length xs) (IsProductEntry group xs) zs → AreEntries (length ys) (IsProductEntry group ys) zs
+products_in : (group : Group) (xs ys zs : List ℕ) → xs ≡ ys → AreEntries (length xs) (IsProductEntry group xs) zs → AreEntries (length ys)
+    (IsProductEntry group ys) zs
 products_in group xs ys zs e h = subst (λ (vs : List ℕ). AreEntries (length vs) (IsProductEntry group vs) zs) e h
 
 exponents_in : (group : Group) (k : WaveVector) (n : ℕ) (xs ys zs : List ℕ) → xs ≡ ys → AreEntries (length xs) (IsPhaseEntry group k n xs) zs
@@ -27,33 +33,60 @@ exponents_in : (group : Group) (k : WaveVector) (n : ℕ) (xs ys zs : List ℕ) 
 exponents_in group k n xs ys zs e h = subst (λ (vs : List ℕ). AreEntries (length vs) (IsPhaseEntry group k n vs) zs) e h
 
 pub new-requires-clause-order_positive : goal.new-requires-clause-order_positive
-new-requires-clause-order_positive c = order-positive (stands_for c.args.group.now) (sign_of c.args.group.now.phase) (wave_vector c.args.k.now) c.args.order c.requires.order
+new-requires-clause-order_positive c = order-positive (stands_for c.args.group.now) (sign_of c.args.group.now.phase)
+    (wave_vector c.args.k.now) c.args.order c.requires.order
 
 pub new-requires-clause-not_empty : goal.new-requires-clause-not_empty
-new-requires-clause-not_empty c = subst (λ n. 0 < n) (sym c.args.places.ok.0) (some_place c.args.group.now c.requires.space (wave_vector c.args.k.now) c.args.places.items c.requires.places)
+new-requires-clause-not_empty c = subst (λ n. 0 < n) (sym c.args.places.ok.0) (some_place c.args.group.now (space_group c.args.group.now)
+    (wave_vector c.args.k.now) c.args.places.items c.requires.places)
 
 pub new-requires-clause-places_within : goal.new-requires-clause-places_within
-new-requires-clause-places_within c = subst (λ n. n ≤ 48) (sym c.args.places.ok.0) (closed_places c.args.group.now c.requires.space (wave_vector c.args.k.now) c.args.places.items c.requires.places).few
+new-requires-clause-places_within c = subst (λ n. n ≤ 48) (sym c.args.places.ok.0) (closed_places c.args.group.now (space_group c.args.group.now)
+    (wave_vector c.args.k.now) c.args.places.items c.requires.places).few
 
 pub new-requires-clause-group : goal.new-requires-clause-group
-new-requires-clause-group c = lists_group c.args.group.now c.requires.space (wave_vector c.args.k.now) c.args.places.items c.requires.places (vec_len c.args.places) c.args.places.ok.0 c.args.order c.requires.order
-    c.in_ok-products.products.items c.in_ok-exponents.exponents.items (products_in c.args.group.now c.deref.result.now c.args.places.items c.in_ok-products.products.items c.deref.ensures.value c.in_ok-products.ensures.entries)
-    (exponents_in c.args.group.now (wave_vector c.args.k.now) c.args.order c.deref-2.result.now c.args.places.items c.in_ok-exponents.exponents.items c.deref-2.ensures.value c.in_ok-exponents.ensures.entries)
+new-requires-clause-group c = lists_group c.args.group.now (space_group c.args.group.now)
+    (wave_vector c.args.k.now) c.args.places.items c.requires.places
+    (vec_len c.args.places) c.args.places.ok.0 c.args.order c.requires.order
+    c.in_ok-products.products.items c.in_ok-exponents.exponents.items
+    (products_in c.args.group.now c.deref.result.now c.args.places.items c.in_ok-products.products.items c.deref.ensures.value
+    c.in_ok-products.ensures.entries)
+    (exponents_in c.args.group.now
+    (wave_vector c.args.k.now) c.args.order c.deref-2.result.now c.args.places.items c.in_ok-exponents.exponents.items c.deref-2.ensures.value
+    c.in_ok-exponents.ensures.entries)
 
 pub new-requires-clause-inverses : goal.new-requires-clause-inverses
-new-requires-clause-inverses c = lists_inverses c.args.group.now c.requires.space (wave_vector c.args.k.now) c.args.places.items c.requires.places (vec_len c.args.places) c.args.places.ok.0 c.args.order c.requires.order
-    c.in_ok-products.products.items c.in_ok-exponents.exponents.items (products_in c.args.group.now c.deref.result.now c.args.places.items c.in_ok-products.products.items c.deref.ensures.value c.in_ok-products.ensures.entries)
-    (exponents_in c.args.group.now (wave_vector c.args.k.now) c.args.order c.deref-2.result.now c.args.places.items c.in_ok-exponents.exponents.items c.deref-2.ensures.value c.in_ok-exponents.ensures.entries)
+new-requires-clause-inverses c = lists_inverses c.args.group.now (space_group c.args.group.now)
+    (wave_vector c.args.k.now) c.args.places.items c.requires.places
+    (vec_len c.args.places) c.args.places.ok.0 c.args.order c.requires.order
+    c.in_ok-products.products.items c.in_ok-exponents.exponents.items
+    (products_in c.args.group.now c.deref.result.now c.args.places.items c.in_ok-products.products.items c.deref.ensures.value
+    c.in_ok-products.ensures.entries)
+    (exponents_in c.args.group.now
+    (wave_vector c.args.k.now) c.args.order c.deref-2.result.now c.args.places.items c.in_ok-exponents.exponents.items c.deref-2.ensures.value
+    c.in_ok-exponents.ensures.entries)
 
 pub new-requires-clause-factors : goal.new-requires-clause-factors
-new-requires-clause-factors c = lists_factors c.args.group.now c.requires.space (wave_vector c.args.k.now) c.args.places.items c.requires.places (vec_len c.args.places) c.args.places.ok.0 c.args.order c.requires.order
-    c.in_ok-products.products.items c.in_ok-exponents.exponents.items (products_in c.args.group.now c.deref.result.now c.args.places.items c.in_ok-products.products.items c.deref.ensures.value c.in_ok-products.ensures.entries)
-    (exponents_in c.args.group.now (wave_vector c.args.k.now) c.args.order c.deref-2.result.now c.args.places.items c.in_ok-exponents.exponents.items c.deref-2.ensures.value c.in_ok-exponents.ensures.entries)
+new-requires-clause-factors c = lists_factors c.args.group.now (space_group c.args.group.now)
+    (wave_vector c.args.k.now) c.args.places.items c.requires.places
+    (vec_len c.args.places) c.args.places.ok.0 c.args.order c.requires.order
+    c.in_ok-products.products.items c.in_ok-exponents.exponents.items
+    (products_in c.args.group.now c.deref.result.now c.args.places.items c.in_ok-products.products.items c.deref.ensures.value
+    c.in_ok-products.ensures.entries)
+    (exponents_in c.args.group.now
+    (wave_vector c.args.k.now) c.args.order c.deref-2.result.now c.args.places.items c.in_ok-exponents.exponents.items c.deref-2.ensures.value
+    c.in_ok-exponents.ensures.entries)
 
 pub returns : goal.returns
-returns c = subst (λ (ys : List ℕ). IsLittleTable c.args.group.now (wave_vector c.args.k.now) ys (phase_table c.in_ok-t.t)) (sym c.in_ok-t.ensures.places)
-    (table_of_lists c.args.group.now c.requires.space (wave_vector c.args.k.now) c.args.places.items c.requires.places (place_count c.in_ok-t.t) (c.in_ok-t.t.places.ok.0 ∙ ap length c.in_ok-t.ensures.places)
+returns c = subst (λ (ys : List ℕ). IsLittleTable c.args.group.now (wave_vector c.args.k.now) ys (phase_table c.in_ok-t.t))
+    (sym c.in_ok-t.ensures.places)
+    (table_of_lists c.args.group.now (space_group c.args.group.now) (wave_vector c.args.k.now) c.args.places.items c.requires.places
+    (place_count c.in_ok-t.t)
+    (c.in_ok-t.t.places.ok.0 ∙ ap length c.in_ok-t.ensures.places)
     c.args.order c.requires.order c.in_ok-products.products.items c.in_ok-exponents.exponents.items
-    (products_in c.args.group.now c.deref.result.now c.args.places.items c.in_ok-products.products.items c.deref.ensures.value c.in_ok-products.ensures.entries)
-    (exponents_in c.args.group.now (wave_vector c.args.k.now) c.args.order c.deref-2.result.now c.args.places.items c.in_ok-exponents.exponents.items c.deref-2.ensures.value c.in_ok-exponents.ensures.entries)
+    (products_in c.args.group.now c.deref.result.now c.args.places.items c.in_ok-products.products.items c.deref.ensures.value
+    c.in_ok-products.ensures.entries)
+    (exponents_in c.args.group.now
+    (wave_vector c.args.k.now) c.args.order c.deref-2.result.now c.args.places.items c.in_ok-exponents.exponents.items c.deref-2.ensures.value
+    c.in_ok-exponents.ensures.entries)
     (phase_table c.in_ok-t.t) c.in_ok-t.ensures.table)

@@ -6,14 +6,14 @@ use Rattle.irr_seitz.specs.Rotation.{determinant}
 use Rattle.irr_seitz.specs.declared.op.Op.{Op}
 use Rattle.irr_kvec.specs.WaveMeaning.{wave_vector}
 use Rattle.irr_kvec.specs.Centrings.{IsCentringList}
-use Rattle.irr_top.proofs.Groups.{centring_list, unimodular_of}
+use Rattle.irr_close.proofs.SpaceGroups.{space_group, unimodular_of}
 use Rattle.irr_top.proofs.Counting.{Kept, canonical_member, step_one, step_none, nothing_left, counted_all}
 use Rattle.irr_top.proofs.small_group.co_group.Goals as goal
 use Rattle.irr_top.proofs.small_group.co_group.Goals.{then-keeps, else-keeps}
 
 pub keeps-requires-clause-centrings : goal.keeps-requires-clause-centrings
 keeps-requires-clause-centrings c = subst IsCentringList (sym c.centrings-centrings.ensures.list)
-    (centring_list c.args.group.now c.requires.group.0 c.requires.group.1)
+    (space_group c.args.group.now).centrings
 
 pub keeps-requires-clause-unimodular : goal.keeps-requires-clause-unimodular
 keeps-requires-clause-unimodular c = subst (λ (x : Op). unsigned_abs (determinant (operation x).rotation) ≡ 1) (sym c.op-item.is)

@@ -4,12 +4,13 @@ use Rattle.irr_space.specs.Reciprocal.{IsPeriod}
 use Rattle.irr_kvec.specs.WaveMeaning.{wave_vector}
 use Rattle.irr_kvec.specs.Centrings.{LatticeOf, IsCentringList}
 use Rattle.irr_top.proofs.Numerators.{wave_limits}
-use Rattle.irr_top.proofs.Groups.{centring_list, order_of}
+use Rattle.irr_close.proofs.SpaceGroups.{space_group}
+use Rattle.irr_top.proofs.Groups.{order_of}
 use Rattle.irr_top.proofs.small_group.order.Goals as goal
 
 pub period-requires-clause-centrings : goal.period-requires-clause-centrings
 period-requires-clause-centrings c = subst IsCentringList (sym c.centrings.ensures.list)
-    (centring_list c.args.group.now c.requires.group.0 c.requires.group.1)
+    (space_group c.args.group.now).centrings
 
 pub period-requires-clause-limits : goal.period-requires-clause-limits
 period-requires-clause-limits c = wave_limits c.args.wave.now c.requires.limits

@@ -4,12 +4,13 @@ use Rattle.irr_space.specs.Reciprocal.{IsReduced}
 use Rattle.irr_kvec.specs.WaveMeaning.{wave_vector}
 use Rattle.irr_kvec.specs.Centrings.{LatticeOf, IsCentringList}
 use Rattle.irr_top.proofs.Numerators.{wave_limits}
-use Rattle.irr_top.proofs.Groups.{centring_list, reduced_of}
+use Rattle.irr_close.proofs.SpaceGroups.{space_group}
+use Rattle.irr_top.proofs.Groups.{reduced_of}
 use Rattle.irr_top.proofs.small_group.reduced_wave.Goals as goal
 
 pub reduced-requires-clause-centrings : goal.reduced-requires-clause-centrings
 reduced-requires-clause-centrings c = subst IsCentringList (sym c.centrings.ensures.list)
-    (centring_list c.args.group.now c.requires.group.0 c.requires.group.1)
+    (space_group c.args.group.now).centrings
 
 pub reduced-requires-clause-limits : goal.reduced-requires-clause-limits
 reduced-requires-clause-limits c = wave_limits c.args.wave.now c.requires.limits

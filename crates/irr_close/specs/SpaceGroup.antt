@@ -1,4 +1,4 @@
--- What is known of each group that generators generate.
+-- What is known of each group.
 --   IsSpaceGroup group     its operations are a group, their rotations have determinant 1 or -1, and as many times each centring as
 --                          there are is whole
 use Rattle.std.specs.Prelude.{◌≡◌, unsigned_abs}
