@@ -18,7 +18,6 @@ use Rattle.irr_space.specs.SpaceGroup.Generated.{one, product, inverse}
 use Rattle.irr_space.specs.Reciprocal.{IsReciprocal, AreEquivalent, IsPeriod, IsOrder, IsReduced, times}
 use Rattle.irr_space.specs.CanonicalOperation.{IsNumbering}
 use Rattle.irr_space.specs.Star.{IsInLittleGroup}
-use Rattle.irr_seitz.specs.OperationMeaning.{operation}
 use Rattle.irr_seitz.specs.declared.op.Op.{Op}
 use Rattle.irr_kvec.specs.Centrings.{LatticeOf, AreCentrings}
 use Rattle.irr_kvec.proofs.GroupLattices.{reciprocal_same, reduced_in_group, period_in_group}
