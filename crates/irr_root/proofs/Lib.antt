@@ -8,3 +8,7 @@ pub mod EigenvalueSums
 pub mod CharacterSums
 pub mod Spacing
 pub mod FamilyCharacters
+pub mod LowerPowers
+pub mod Choices
+pub mod Smalls
+pub mod RootLists

@@ -1,4 +1,6 @@
 pub mod Eigenvalues
 pub mod Characters
 pub mod Powers
+pub mod ProductSum
 pub mod Repeated
+pub mod RootSums

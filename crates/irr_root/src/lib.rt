@@ -4,6 +4,8 @@
 mod eigenvalues;
 mod powers;
 mod repeated;
+mod solutions;
+mod sums;
 
 pub use eigenvalues::eigen_exponents;
 pub use irr_memory::Memory;
