@@ -64,3 +64,30 @@ pub(crate) fn first_solution<S: Scalar>(
     }
     unreachable!()
 }
+
+/// The first of the numbers r with factor * r * r^q = target, where one of them is; q is 1 or 2.
+pub(crate) fn first_root<S: Scalar>(
+    alloc: Global,
+    q: u32,
+    factor: &S,
+    candidates: &[S],
+    target: &S,
+) -> Result<S, Memory>
+    requires one_or_two { (q ≡ 1) ⊎ (q ≡ 2) }
+    requires small { (n : ℕ) × IsSmall S.order_of S.value n 2304 factor.now × AreSmall S.order_of S.value n 48 candidates.now
+        × IsSmall S.order_of S.value n (2 ^ 30) target.now }
+    requires exists { let n = S.order_of factor.now in (r : Number n) × Contains (map (S.value n) candidates.now) r
+        × ((numbers n).mul (S.value n factor.now) ((numbers n).mul r (number_power (numbers n) r q)) ≡ S.value n target.now) }
+    ensures small { (n : ℕ) → S.order_of factor.now ≡ n → IfOk result (λ r. IsSmall S.order_of S.value n 48 r) }
+    ensures solution { (n : ℕ) → S.order_of factor.now ≡ n → IfOk result (λ r.
+        (numbers n).mul (S.value n factor.now) ((numbers n).mul (S.value n r) (number_power (numbers n) (S.value n r) q)) ≡ S.value n target.now) }
+{
+    for r in candidates {
+        let power = lower_power(alloc, q, r)?;
+        if is_solution(alloc, factor, r, &power, target)? {
+            let found = r.copy(alloc)?;
+            return Ok(found);
+        }
+    }
+    unreachable!()
+}
