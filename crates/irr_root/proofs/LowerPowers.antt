@@ -1,7 +1,7 @@
 -- The first two powers of a number.
 --   power_one, power_two     what they are
 --   power-small              their size
-use Rattle.std.proofs.Common.{◌≡◌, sym, ap, subst, ℕ, ◌⊎◌, inl, inr, ◌*◌, ◌≤◌, arith}
+use Rattle.std.proofs.Common.{◌≡◌, sym, ap, subst, ℕ, ◌⊎◌, inl, inr, arith}
 use Rattle.irr_algebra.specs.Ring.{Ring}
 use Rattle.irr_number.specs.Number.{Number, numbers}
 use Rattle.irr_canonical.specs.RootSum.{IsRootSum}

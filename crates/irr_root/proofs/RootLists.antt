@@ -6,8 +6,7 @@
 --   SumsSoFar                the sums of the first numbers of a list and all roots
 --   sums-none, sums-next, sums-all       none, those of one more number, and of all
 --   root_sums-none, root_sums-next, root_sums-step       sums for no exponent, and for one more
-use Rattle.std.proofs.Common.{◌≡◌, sym, ◌∙◌, ap, ap₂, refl, subst, ℕ, zero, suc, ◌<◌, ◌≤◌, ◌+◌, ◌*◌, ◌/◌, ◌⊎◌, List, [], ◌∷◌, ◌++◌, length, map, get_or, take, All, Contains, arith}
-use Rattle.std.specs.Prelude.{slice_index_or}
+use Rattle.std.proofs.Common.{◌≡◌, sym, ◌∙◌, ap, refl, subst, ℕ, suc, ◌<◌, ◌≤◌, ◌+◌, ◌*◌, ◌/◌, List, [], ◌∷◌, ◌++◌, length, map, get_or, Contains, arith}
 use native.Mathlib.Decide.{dec_le}
 use native.Mathlib.Nat as Nat
 use Rattle.std.proofs.lemmas.List.{get_or-map, get_or_default, length-map, map-append}

@@ -1,5 +1,5 @@
 -- A root is found, and one is there.
-use Rattle.std.proofs.Common.{◌≡◌, refl, sym, ◌∙◌, ap, subst, ℕ, suc, ◌+◌, ◌<◌, ◌≤◌, length, get_or, arith}
+use Rattle.std.proofs.Common.{◌≡◌, refl, sym, ◌∙◌, ap, subst, suc, ◌<◌, get_or, arith}
 use native.Mathlib.Decide.{dec_le}
 use Rattle.std.proofs.lemmas.List.{get_or_default}
 use Rattle.std.proofs.lemmas.List.Elements.{All-get_or}
@@ -80,7 +80,7 @@ loop-r-preserved g c = λ a l x is e.
     let r = c.r-item.result in
     let power = c.in_ok-power.power in
     elim (dec_le (suc a) c.loop-r.r-index) [
-      yes m ↦ c.loop-r.invariant a (omega (arith, m)) x is e
+      | yes m ↦ c.loop-r.invariant a (omega (arith, m)) x is e
       | no m ↦
           let same : c.loop-r.r-index ≡ a = omega (arith, l, m) in
           let found = c.r-item.is ∙ get_or_default c.args.candidates.now c.loop-r.r-index c.r-item.result x c.loop-r-test.true

@@ -1,5 +1,5 @@
 -- The sizes of two products, and their meaning.
-use Rattle.std.proofs.Common.{◌≡◌, sym, ◌∙◌, ap, subst, ◌*◌, ◌^◌, arith}
+use Rattle.std.proofs.Common.{◌≡◌, sym, ◌∙◌, ap, subst, ◌^◌, arith}
 use Rattle.irr_number.specs.Number.{numbers}
 use Rattle.irr_root.proofs.Smalls.{denominators_of_small, products_of_small, sizes_of_small, small-product}
 use Rattle.irr_root.proofs.solutions.is_solution.Goals as goal

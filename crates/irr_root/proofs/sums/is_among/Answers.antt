@@ -1,5 +1,5 @@
 -- Two numbers of limited size.
-use Rattle.std.proofs.Common.{rules, ◌≡◌, ◌<◌, get_or, length, map, subst, sym, ◌∙◌, Contains, arith}
+use Rattle.std.proofs.Common.{rules, ◌≡◌, ◌<◌, length, subst, sym, ◌∙◌, arith}
 use Rattle.std.proofs.lemmas.List.Elements.{All-get_or}
 use Rattle.irr_root.specs.RootSums.{IsSmall}
 use Rattle.irr_root.proofs.RootLists.{contains_at}

@@ -1,7 +1,7 @@
 -- The sums of one more number, and of all.
-use Rattle.std.proofs.Common.{rules, ◌≡◌, sym, subst, ℕ, ◌+◌, ◌*◌, ◌/◌, ◌<◌, length, get_or, arith}
+use Rattle.std.proofs.Common.{◌≡◌, sym, subst, ℕ, ◌+◌, ◌*◌, ◌/◌, length, arith}
 use Rattle.std.proofs.lemmas.List.Elements.{All-get_or}
-use Rattle.irr_number.specs.Number.{Number, numbers, root_power}
+use Rattle.irr_number.specs.Number.{Number, root_power}
 use Rattle.irr_rep.specs.Twisted.{phase_table}
 use Rattle.irr_root.specs.RootSums.{IsSmall}
 use Rattle.irr_root.proofs.RootLists.{SumsSoFar, sums-all, sums-next}

@@ -1,8 +1,8 @@
 -- No exponent, one more, and all.
-use Rattle.std.proofs.Common.{rules, ◌≡◌, sym, ◌∙◌, ap, subst, ℕ, ◌+◌, ◌*◌, ◌/◌, ◌<◌, ◌≤◌, List, [], ◌∷◌, ◌++◌, length, get_or, map, take, Contains, arith}
+use Rattle.std.proofs.Common.{◌≡◌, sym, ◌∙◌, ap, subst, ◌/◌, ◌<◌, ◌≤◌, [], ◌∷◌, ◌++◌, get_or, map, take, Contains, arith}
 use Rattle.std.proofs.lemmas.List.{take_all, take_more}
 use Rattle.std.proofs.lemmas.List.Elements.{All-cons, All-nil, All-weaker}
-use Rattle.irr_number.specs.Number.{Number, numbers, root_power}
+use Rattle.irr_number.specs.Number.{numbers, root_power}
 use Rattle.irr_canonical.specs.RootSum.{IsRootSum}
 use Rattle.irr_canonical.proofs.RootSums.{IsRootSum-zero}
 use Rattle.irr_rep.specs.Twisted.{phase_table}

@@ -1,5 +1,5 @@
 -- The sums for the first exponents.
-use Rattle.std.proofs.Common.{◌+◌, ◌*◌, ◌/◌, map, take}
+use Rattle.std.proofs.Common.{◌/◌, map, take}
 use Rattle.irr_number.specs.Number.{numbers, root_power}
 use Rattle.irr_rep.specs.Twisted.{phase_table}
 use Rattle.irr_root.specs.RootSums.{AreSmall, HasRootSums}

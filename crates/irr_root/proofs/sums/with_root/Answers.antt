@@ -1,5 +1,5 @@
 -- The sizes of the root and the sum.
-use Rattle.std.proofs.Common.{◌≡◌, sym, subst, ◌+◌, ◌*◌, ◌/◌, arith}
+use Rattle.std.proofs.Common.{sym, subst, ◌+◌, ◌*◌, ◌/◌, arith}
 use Rattle.irr_canonical.specs.RootSum.{IsRootSum}
 use Rattle.irr_canonical.proofs.RootSums.{IsRootSum-root}
 use Rattle.irr_rep.specs.Twisted.{phase_table}

@@ -1,5 +1,5 @@
 -- One more root: its sum is there, or is added.
-use Rattle.std.proofs.Common.{◌≡◌, sym, ◌∙◌, ap, subst, ℕ, ◌+◌, ◌*◌, ◌/◌, ◌<◌, ◌≤◌, map, All, Contains, arith}
+use Rattle.std.proofs.Common.{sym, ◌∙◌, ap, subst, ℕ, ◌+◌, ◌*◌, ◌/◌, ◌≤◌, map, Contains, arith}
 use Rattle.std.proofs.lemmas.List.Elements.{All-weaker}
 use Rattle.irr_number.specs.Number.{Number, numbers, root_power}
 use Rattle.irr_canonical.specs.RootSum.{IsRootSum}
@@ -42,7 +42,7 @@ loop-j-preserved g c =
     let j = c.loop-j.j in
     let f : ℕ → Number c.args.order.now.n = λ i. (numbers n).add (root_power n ((c.args.e / c.args.p + i * (N / c.args.p)) * (n / N))) (value n c.args.rest.now) in
     elim c.if-not-is_among.branch [
-      then-not-is_among+in_ok-push w ↦ roots-new order value n c.args.sums.items c.args.rest.now f j c.loop-j.sums.items c.if-not-is_among.sums.items c.in_ok-sum.sum c.loop-j.invariant
+      | then-not-is_among+in_ok-push w ↦ roots-new order value n c.args.sums.items c.args.rest.now f j c.loop-j.sums.items c.if-not-is_among.sums.items c.in_ok-sum.sum c.loop-j.invariant
           (ap (λ v. v.items) w.sums-is ∙ w.in_ok-push.ensures.items) c.in_ok-sum.ensures.order c.in_ok-sum.ensures.value
           (λ s r. small-sum order value n s ((c.args.e / c.args.p + j * (N / c.args.p)) * (n / N)) c.args.rest.now r)
       | else-not-is_among w ↦ subst (RootsSoFar order value n c.args.sums.items c.args.rest.now f (j + 1)) (sym (ap (λ v. v.items) w.sums-is))
