@@ -6,6 +6,7 @@ mod powers;
 mod repeated;
 mod solutions;
 mod sums;
+mod turned;
 
 pub use eigenvalues::eigen_exponents;
 pub use irr_memory::Memory;
