@@ -12,3 +12,7 @@ pub mod LowerPowers
 pub mod Choices
 pub mod Smalls
 pub mod RootLists
+pub mod StepPowers
+pub mod StepTraces
+pub mod PlacePowers
+pub mod ScaledOccurrences

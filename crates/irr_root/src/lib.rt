@@ -2,10 +2,12 @@
 #![tactic(auto)]
 
 mod eigenvalues;
+mod place_powers;
 mod powers;
 mod repeated;
 mod solutions;
 mod sums;
+mod trace_sums;
 mod turned;
 
 pub use eigenvalues::eigen_exponents;
