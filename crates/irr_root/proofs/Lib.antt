@@ -12,3 +12,6 @@ pub mod LowerPowers
 pub mod Choices
 pub mod Smalls
 pub mod RootLists
+pub mod TurnedProducts
+pub mod SandwichSums
+pub mod ProductTerms

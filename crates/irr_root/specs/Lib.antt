@@ -4,3 +4,4 @@ pub mod Powers
 pub mod ProductSum
 pub mod Repeated
 pub mod RootSums
+pub mod Sandwiches

@@ -3,7 +3,9 @@
 
 mod eigenvalues;
 mod powers;
+mod products;
 mod repeated;
+mod sandwich;
 mod solutions;
 mod sums;
 mod turned;
