@@ -15,3 +15,4 @@ pub mod RootLists
 pub mod TurnedProducts
 pub mod SandwichSums
 pub mod ProductTerms
+pub mod PlacePositions

@@ -1,5 +1,6 @@
 pub mod Eigenvalues
 pub mod Characters
+pub mod Positions
 pub mod Powers
 pub mod ProductSum
 pub mod Repeated

@@ -2,6 +2,7 @@
 #![tactic(auto)]
 
 mod eigenvalues;
+mod positions;
 mod powers;
 mod products;
 mod repeated;
