@@ -29,7 +29,8 @@ placed-next members a ps p now l is = record {
   placed = λ k below m. cases k below m (dec_le a (slice_index members k));
 }
   where
-    cases : (k : ℕ) → k < length members → slice_index members k < a + 1 → Dec (a ≤ slice_index members k) → slice_index (ps ++ p ∷ []) (slice_index members k) ≡ k
+    cases : (k : ℕ) → k < length members → slice_index members k < a + 1 → Dec (a ≤ slice_index members k)
+        → slice_index (ps ++ p ∷ []) (slice_index members k) ≡ k
     cases k below m (no f) =
         let early : slice_index members k < a = omega (arith, f) in
         get_or-append ps (p ∷ []) 0 (slice_index members k) (subst (λ n. slice_index members k < n) (sym now.count) early) ∙ now.placed k below early
@@ -37,7 +38,8 @@ placed-next members a ps p now l is = record {
         let last : slice_index members k ≡ a = omega (arith, m, f) in
         ap (λ n. get_or (ps ++ p ∷ []) n 0) (last ∙ sym now.count) ∙ get_or-append_seam ps p [] 0 ∙ is k below last
 
-module _ {R : Ring} {T : FactorSystem R} (H : Subgroup T) (members positions : List ℕ) (count : H.table.places ≡ length members) (are : ArePositionsIn members T.places positions) where
+module _ {R : Ring} {T : FactorSystem R} (H : Subgroup T) (members positions : List ℕ) (count : H.table.places ≡ length members)
+    (are : ArePositionsIn members T.places positions) where
   position-lt : (a : Fin T.places) → slice_index positions (to_nat a) < H.table.places
   position-lt a = subst (λ n. slice_index positions (to_nat a) < n) (sym count)
       (All-get_or (λ (k : ℕ). k < length members) positions (to_nat a) 0 (subst (λ n. to_nat a < n) (sym are.count) (to_nat-lt a)) are.within)
@@ -49,7 +51,8 @@ module _ {R : Ring} {T : FactorSystem R} (H : Subgroup T) (members positions : L
   unfolding position_of
   position_of-number a = sym (to_nat-from_nat H.table.places (slice_index positions (to_nat a)) (position-lt a))
 
-  pub position_of-member : ((i : Fin H.table.places) → slice_index members (to_nat i) ≡ to_nat (H.member i)) → (n : Fin H.table.places) → position_of (H.member n) ≡ n
+  pub position_of-member : ((i : Fin H.table.places) → slice_index members (to_nat i) ≡ to_nat (H.member i)) → (n : Fin H.table.places)
+      → position_of (H.member n) ≡ n
   position_of-member at n =
       let l : to_nat n < length members = subst (λ m. to_nat n < m) count (to_nat-lt n) in
       to_nat_inj (position_of (H.member n)) n (sym (position_of-number (H.member n)) ∙ ap (slice_index positions) (sym (at n))

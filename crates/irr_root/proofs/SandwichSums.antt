@@ -24,15 +24,16 @@ use Rattle.irr_extension.specs.Product.{sandwich}
 use Rattle.irr_char.specs.Characters.{IsSmallRow}
 use Rattle.irr_char.proofs.AverageTerms.{item-order, item-small, item-value}
 use Rattle.irr_root.specs.RootSums.{IsSmall}
-use Rattle.irr_root.specs.Sandwiches.{IsTurned, listed_value, place_by, place_or, sandwich_sum, sandwich_value}
+use Rattle.irr_root.specs.Sandwiches.{IsTurned, listed_member, listed_value, place_by, place_or, sandwich_sum, sandwich_value}
 
 -- the values at x n y n^-1 and at x j (y i y i^-1) j^-1, by the number of the member
-module _ {h : ℕ} (T : PhaseTable h) (n : ℕ) (members positions : List ℕ) (f : List (Number n)) (v : T.order ∣ n) (x y : Lifted (phases_over T n v)) where
+module _ {h : ℕ} (T : PhaseTable h) (n : ℕ) (members positions : List ℕ) (f : List (Number n)) (v : T.order ∣ n)
+    (x y : Lifted (phases_over T n v)) where
   abbrev pub inner_terms : ℕ → Number n
   inner_terms = sandwich_value T n v members positions f x y
 
   abbrev pub outer_terms : ℕ → Number n
-  outer_terms i = sandwich_sum T n v members positions f x (sandwich (phases_over T n v) y (place_or T.start (slice_index members i)) y)
+  outer_terms i = sandwich_sum T n v members positions f x (sandwich (phases_over T n v) y (listed_member T members i) y)
 
 -- the place with a number
 place_by-number : {h : ℕ} (s : Fin h) (k : ℕ) (d : Dec (k < h)) → k < h → to_nat (place_by s k d) ≡ k
@@ -46,21 +47,28 @@ member-number {h} s k l = place_by-number s k (dec_lt k h) l
 pub member-of : {h : ℕ} (s i : Fin h) → place_or s (to_nat i) ≡ i
 member-of s i = to_nat_inj (place_or s (to_nat i)) i (member-number s (to_nat i) (to_nat-lt i))
 
-pub listed-turned : {h : ℕ} (T : PhaseTable h) (M : ℕ) (v : T.order ∣ M) (members positions : List ℕ) (f : List (Number M)) (p e : ℕ) (z : Lifted (phases_over T M v))
+pub listed-turned : {h : ℕ} (T : PhaseTable h) (M : ℕ) (v : T.order ∣ M) (positions : List ℕ) (f : List (Number M)) (p e : ℕ)
+    (z : Lifted (phases_over T M v))
     → IsTurned T M v p e z → (numbers M).mul (root_power M (e * (M / T.order))) (slice_index_or f (slice_index positions p) (numbers M).zero)
-    ≡ listed_value T M v members positions f z
+    ≡ listed_value T M v positions f z
 unfolding listed_value
-listed-turned T M v members positions f p e z is = ap₂ (numbers M).mul (sym is.power) (ap (λ i. slice_index_or f (slice_index positions i) (numbers M).zero) is.at_place)
+listed-turned T M v positions f p e z is = ap₂ (numbers M).mul (sym is.power)
+    (ap (λ i. slice_index_or f (slice_index positions i) (numbers M).zero) is.at_place)
 
 module _ {S : Type 0} (order : S → ℕ) (value : (n : ℕ) → S → Number n) (n : ℕ) where
   pub root-small : (e : ℕ) (x : S) → order x ≡ n → value n x ≡ root_power n e → IsSmall order value n 1 x
   root-small e x o v = record { has_order = o; few = subst (IsRootSum n 1 1) (sym v) (IsRootSum-root n e) }
 
-  pub item-is-small : (h : ℕ) (row : List S) → IsSmallRow order value n h row → (k : ℕ) → k < h → (x : S) → x ≡ get_or row k x → IsSmall order value n 48 x
-  item-is-small h row small k l x is = record { has_order = item-order order value n h row small k l x is; few = item-small order value n h row small k l x is }
+  pub item-is-small : (h : ℕ) (row : List S) → IsSmallRow order value n h row → (k : ℕ) → k < h → (x : S) → x ≡ get_or row k x
+      → IsSmall order value n 48 x
+  item-is-small h row small k l x is = record {
+    has_order = item-order order value n h row small k l x is;
+    few = item-small order value n h row small k l x is;
+  }
 
   pub turned-number : (h : ℕ) (row : List S) → IsSmallRow order value n h row → (k : ℕ) → k < h → (e : ℕ) (turn x z : S) → x ≡ get_or row k x
-      → order turn ≡ n → value n turn ≡ root_power n e → value (order turn) z ≡ (numbers (order turn)).mul (value (order turn) turn) (value (order turn) x)
+      → order turn ≡ n → value n turn ≡ root_power n e → value (order turn) z ≡ (numbers (order turn)).mul (value (order turn) turn)
+      (value (order turn) x)
       → value n z ≡ (numbers n).mul (root_power n e) (slice_index_or (map (value n) row) k (numbers n).zero)
   turned-number h row small k l e turn x z is o t v =
       subst (λ m. value m z ≡ (numbers m).mul (value m turn) (value m x)) o v
@@ -78,14 +86,19 @@ module _ {S : Type 0} (order : S → ℕ) (value : (n : ℕ) → S → Number n)
     few = subst (IsRootSum n (s + t) 1) (sym (added x y z h.has_order v)) (IsRootSum-add_same n h.few k.few);
   }
 
-  module _ {h : ℕ} (T : PhaseTable h) (i e j g s : ℕ) (f : (v : T.order ∣ n) → Lifted (phases_over T n v) → Lifted (phases_over T n v) → ℕ → Number n) where
+  module _ {h : ℕ} (T : PhaseTable h) (i e j g s : ℕ) (f : (v : T.order ∣ n) → Lifted (phases_over T n v) → Lifted (phases_over T n v) → ℕ
+      → Number n) where
     pub record SumSoFar (k : ℕ) (x : S) : Type 0 where
       pub small : IsSmall order value n (k * s) x
-      pub sum : (v : T.order ∣ n) (a b : Lifted (phases_over T n v)) → IsTurned T n v i e a → IsTurned T n v j g b → value n x ≡ sum_below (numbers n) k (f v a b)
+      pub sum : (v : T.order ∣ n) (a b : Lifted (phases_over T n v)) → IsTurned T n v i e a → IsTurned T n v j g b
+          → value n x ≡ sum_below (numbers n) k (f v a b)
 
     pub sums-none : (x : S) → order x ≡ n → value n x ≡ (numbers n).zero → SumSoFar 0 x
     sums-none x o z = record {
-      small = record { has_order = o; few = subst (IsRootSum n (0 * s) 1) (sym z) (IsRootSum-more n (0 * s) (omega arith) (IsRootSum-zero n 1 (omega arith))) };
+      small = record {
+        has_order = o;
+        few = subst (IsRootSum n (0 * s) 1) (sym z) (IsRootSum-more n (0 * s) (omega arith) (IsRootSum-zero n 1 (omega arith)));
+      };
       sum = λ v a b p q. z ∙ sym (sum_below-zero (numbers n) (f v a b));
     }
 
@@ -96,7 +109,8 @@ module _ {S : Type 0} (order : S → ℕ) (value : (n : ℕ) → S → Number n)
         record {
           small = subst (λ m. IsSmall order value n m z) (sym (Nat.suc-mul k s) ∙ ap (λ m. m * s) (sym (add-one k)))
               (sum-is-small (k * s) s x y z now.small small o v);
-          sum = λ w a b p q. added x y z now.small.has_order v ∙ ap₂ (numbers n).add (now.sum w a b p q) (is w a b p q) ∙ sym (sum_below-add_one (numbers n) k (f w a b));
+          sum = λ w a b p q. added x y z now.small.has_order v ∙ ap₂ (numbers n).add (now.sum w a b p q) (is w a b p q)
+              ∙ sym (sum_below-add_one (numbers n) k (f w a b));
         }
 
     -- at most 48 terms

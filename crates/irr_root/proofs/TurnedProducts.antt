@@ -36,7 +36,8 @@ module _ {h : ℕ} (T : PhaseTable h) (M : ℕ) (v : T.order ∣ M) where
         ap₂ (numbers M).mul (ap₂ (numbers M).mul a.power b.power ∙ root_power-mul M (e * (M / T.order)) (f * (M / T.order)))
         (lift-root_power T.order M T.order_positive v (T.exponent x.place y.place) ∙ lifted-power (T.exponent x.place y.place))
         ∙ root_power-mul M (e * (M / T.order) + f * (M / T.order)) (T.exponent x.place y.place * (M / T.order))
-        ∙ ap (root_power M) (sym (Nat.add-mul (e + f) (T.exponent x.place y.place) (M / T.order) ∙ ap (λ k. k + T.exponent x.place y.place * (M / T.order)) (Nat.add-mul e f (M / T.order))))
+        ∙ ap (root_power M) (sym (Nat.add-mul (e + f) (T.exponent x.place y.place) (M / T.order)
+        ∙ ap (λ k. k + T.exponent x.place y.place * (M / T.order)) (Nat.add-mul e f (M / T.order))))
         ∙ sym (root_power-rest T.order M (e + f + T.exponent x.place y.place) T.order_positive v)
         ∙ ap (λ k. root_power M (k * (M / T.order))) (sym exponent);
   }

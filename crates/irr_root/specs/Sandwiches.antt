@@ -1,9 +1,10 @@
 -- Sums of a character over the products x n y n^-1, where places have powers of z beside them.
 --   IsTurned T M v place exponent z      z is the place with z^exponent beside it, among the numbers of order M
 --   place_or s k                         the place with the number k, and s where there is none
---   listed_value f positions z           the number of z times f at the position that is listed for its place
---   sandwich_value T M v members positions f x y k     the value at x n y n^-1 for the k-th member n
---   sandwich_sum, sandwich_sums          these values added up, at y, and at the y i y i^-1 for the members i
+--   listed_value T M v positions f z     the number of z times the number of f at the position that is listed for its place
+--   listed_member T members k            the k-th member
+--   sandwich_value T M v members positions f x y k    the value at x n y n^-1 for the k-th member n
+--   sandwich_sum, sandwich_sums          these values added up, and those at x j (y i y i^-1) j^-1 for all members i and j
 use Rattle.std.specs.Prelude.{ℕ, ◌≡◌, ◌<◌, ◌*◌, ◌/◌, List, length, slice_index, slice_index_or}
 use Rattle.std.specs.Int.{◌∣◌}
 use native.Mathlib.Decide.{dec_lt}
@@ -28,22 +29,23 @@ place_by s k (no f) = s
 abbrev pub place_or : {h : ℕ} → Fin h → ℕ → Fin h
 place_or {h} s k = place_by s k (dec_lt k h)
 
+-- the value of the character at z
+unfoldable pub listed_value : {h : ℕ} (T : PhaseTable h) (M : ℕ) (v : T.order ∣ M) (positions : List ℕ) (f : List (Number M))
+    → Lifted (phases_over T M v) → Number M
+listed_value T M v positions f z = (numbers M).mul z.number (slice_index_or f (slice_index positions (to_nat z.place)) (numbers M).zero)
+
+-- the place of the k-th member
+abbrev pub listed_member : {h : ℕ} (T : PhaseTable h) → List ℕ → ℕ → Fin h
+listed_member T members k = place_or T.start (slice_index members k)
+
 module _ {h : ℕ} (T : PhaseTable h) (M : ℕ) (v : T.order ∣ M) (members positions : List ℕ) (f : List (Number M)) where
-  -- the value of the character at z
-  unfoldable pub listed_value : Lifted (phases_over T M v) → Number M
-  listed_value z = (numbers M).mul z.number (slice_index_or f (slice_index positions (to_nat z.place)) (numbers M).zero)
-
-  -- the k-th member
-  abbrev pub listed_member : ℕ → Fin h
-  listed_member k = place_or T.start (slice_index members k)
-
   -- at x n y n^-1
   abbrev pub sandwich_value : (x y : Lifted (phases_over T M v)) → ℕ → Number M
-  sandwich_value x y k = listed_value (sandwich (phases_over T M v) x (listed_member k) y)
+  sandwich_value x y k = listed_value T M v positions f (sandwich (phases_over T M v) x (listed_member T members k) y)
 
   abbrev pub sandwich_sum : (x y : Lifted (phases_over T M v)) → Number M
   sandwich_sum x y = sum_below (numbers M) (length members) (sandwich_value x y)
 
   -- at x j (y i y i^-1) j^-1
   abbrev pub sandwich_sums : (x y : Lifted (phases_over T M v)) → Number M
-  sandwich_sums x y = sum_below (numbers M) (length members) (λ i. sandwich_sum x (sandwich (phases_over T M v) y (listed_member i) y))
+  sandwich_sums x y = sum_below (numbers M) (length members) (λ i. sandwich_sum x (sandwich (phases_over T M v) y (listed_member T members i) y))

@@ -4,7 +4,7 @@ use Rattle.std.proofs.lemmas.List.Elements.{All-get_or}
 use Rattle.irr_rep.specs.Twisted.{phase_table, place_count}
 use Rattle.irr_space.specs.PhaseTable.{phases_over}
 use Rattle.irr_extension.specs.Product.{sandwich}
-use Rattle.irr_root.specs.Sandwiches.{place_or}
+use Rattle.irr_root.specs.Sandwiches.{listed_member}
 use Rattle.irr_root.proofs.SandwichSums.{listed-turned, member-number, inner_terms, sums-next, sums-none, sums-small}
 use Rattle.irr_root.proofs.Smalls.{denominators_of_small, sizes_of_small}
 use Rattle.irr_root.proofs.products.sandwich_sum.Goals as goal
@@ -56,10 +56,13 @@ loop-k-preserved g c =
     let z = c.sandwich-z.result in
     let k = c.loop-k.k in
     let l : c.loop-k.k < length c.args.members.now = search rules in
-    let m = place_or T.start (slice_index members k) in
-    let number = member-number T.start (slice_index members k) (All-get_or (λ (a : ℕ). a < place_count c.args.t.now) members k 0 l c.requires.members) in
-    sums-next order value n T x.place x.exponent y.place y.exponent 48 (inner_terms T n members positions (map (value n) row)) k c.loop-k.sum c.in_ok-next.next c.in_ok-sum-2.sum
+    let m = listed_member T members k in
+    let number = member-number T.start (slice_index members k)
+    (All-get_or (λ (a : ℕ). a < place_count c.args.t.now) members k 0 l c.requires.members) in
+    sums-next order value n T x.place x.exponent y.place y.exponent 48
+    (inner_terms T n members positions (map (value n) row)) k c.loop-k.sum c.in_ok-next.next c.in_ok-sum-2.sum
     c.loop-k.invariant c.in_ok-next.ensures.small
-    (λ v a b p q. c.in_ok-next.ensures.value ∙ listed-turned T n v members positions (map (value n) row) z.place z.exponent (sandwich (phases_over T n v) a m b)
+    (λ v a b p q. c.in_ok-next.ensures.value ∙ listed-turned T n v positions (map (value n) row) z.place z.exponent
+    (sandwich (phases_over T n v) a m b)
     (c.sandwich-z.ensures.turned n v a b m p q number))
     c.in_ok-sum-2.ensures.order c.in_ok-sum-2.ensures.value

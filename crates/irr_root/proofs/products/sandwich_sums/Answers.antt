@@ -6,7 +6,7 @@ use Rattle.irr_number.specs.Number.{numbers}
 use Rattle.irr_rep.specs.Twisted.{phase_table, place_count}
 use Rattle.irr_space.specs.PhaseTable.{phases_over}
 use Rattle.irr_extension.specs.Product.{sandwich}
-use Rattle.irr_root.specs.Sandwiches.{place_or}
+use Rattle.irr_root.specs.Sandwiches.{listed_member}
 use Rattle.irr_root.proofs.SandwichSums.{member-number, outer_terms, sums-next, sums-none, sums-small}
 use Rattle.irr_root.proofs.Smalls.{denominators_of_small, sizes_of_small}
 use Rattle.irr_root.proofs.products.sandwich_sums.Goals as goal
@@ -58,9 +58,11 @@ loop-k-preserved g c =
     let z = c.sandwich-z.result in
     let k = c.loop-k.k in
     let l : c.loop-k.k < length c.args.members.now = search rules in
-    let m = place_or T.start (slice_index members k) in
-    let number = member-number T.start (slice_index members k) (All-get_or (λ (a : ℕ). a < place_count c.args.t.now) members k 0 l c.requires.members) in
-    sums-next order value n T x.place x.exponent y.place y.exponent 2304 (outer_terms T n members positions (map (value n) row)) k c.loop-k.sum c.in_ok-next.next c.in_ok-sum-2.sum
+    let m = listed_member T members k in
+    let number = member-number T.start (slice_index members k)
+    (All-get_or (λ (a : ℕ). a < place_count c.args.t.now) members k 0 l c.requires.members) in
+    sums-next order value n T x.place x.exponent y.place y.exponent 2304
+    (outer_terms T n members positions (map (value n) row)) k c.loop-k.sum c.in_ok-next.next c.in_ok-sum-2.sum
     c.loop-k.invariant c.in_ok-next.ensures.small
     (λ v a b p q. c.in_ok-next.ensures.sum v a (sandwich (phases_over T n v) b m b) p (c.sandwich-z.ensures.turned n v b b m q q number))
     c.in_ok-sum-2.ensures.order c.in_ok-sum-2.ensures.value
@@ -71,5 +73,6 @@ returns-clause-sum g c v a b p q =
     let n = c.args.order.now.n in
     let T = phase_table c.args.t.now in
     let done : c.loop-k.k ≡ length c.args.members.now = search rules in
-    subst (λ m. value n c.loop-k.sum ≡ sum_below (numbers n) m (outer_terms T n c.args.members.now c.args.positions.now (map (value n) c.args.character.now) v a b)) done
+    subst (λ m. value n c.loop-k.sum ≡ sum_below (numbers n) m
+    (outer_terms T n c.args.members.now c.args.positions.now (map (value n) c.args.character.now) v a b)) done
     (c.loop-k.invariant.sum v a b p q)

@@ -16,10 +16,13 @@ returns-clause-turned c M v a b k first second e =
     let left = c.turned_product-left in
     let middle = c.turned_product-middle in
     let last = c.opposite-last in
-    let one = product-turned T M v x.place x.exponent c.args.n 0 left.result.place left.result.exponent a (at_place W k) first (unit-turned T M v k c.args.n e)
+    let one = product-turned T M v x.place x.exponent c.args.n 0 left.result.place left.result.exponent a (at_place W k) first
+    (unit-turned T M v k c.args.n e)
     (left.ensures.place, left.ensures.exponent) in
     let two = product-turned T M v left.result.place left.result.exponent y.place y.exponent middle.result.place middle.result.exponent
     (lifted_product a (at_place W k)) b one second (middle.ensures.place, middle.ensures.exponent) in
-    let three = product-turned T M v middle.result.place middle.result.exponent last.result.place last.result.exponent c.turned_product.result.place c.turned_product.result.exponent
-    (lifted_product (lifted_product a (at_place W k)) b) (opposite_of W k) two (last.ensures.turned M v k e) (c.turned_product.ensures.place, c.turned_product.ensures.exponent) in
+    let three = product-turned T M v middle.result.place middle.result.exponent last.result.place last.result.exponent c.turned_product.result.place
+    c.turned_product.result.exponent
+    (lifted_product (lifted_product a (at_place W k)) b) (opposite_of W k) two (last.ensures.turned M v k e)
+    (c.turned_product.ensures.place, c.turned_product.ensures.exponent) in
     sandwich-turned T M v c.turned_product.result.place c.turned_product.result.exponent a b k three
