@@ -6,7 +6,7 @@
 --   listed-turned                   a power of z times a number of the character
 --   SumSoFar                        the first terms added up, for all places with powers of z that x and y stand for
 --   sums-none, sums-next, sums-all  no term, one more, and all
-use Rattle.std.proofs.Common.{◌≡◌, sym, ◌∙◌, ap, ap₂, subst, ℕ, suc, ◌+◌, ◌*◌, ◌/◌, ◌<◌, ◌≤◌, List, get_or, map, slice_index, add-one, arith}
+use Rattle.std.proofs.Common.{◌≡◌, sym, ◌∙◌, ap, ap₂, subst, ℕ, ◌+◌, ◌*◌, ◌/◌, ◌<◌, ◌≤◌, List, get_or, map, slice_index, add-one, arith}
 use Rattle.std.specs.Prelude.{slice_index_or}
 use Rattle.std.specs.Int.{◌∣◌}
 use native.Mathlib.Decide.{dec_lt}

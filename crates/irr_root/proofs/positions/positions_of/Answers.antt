@@ -1,7 +1,7 @@
 -- One more position.
-use Rattle.std.proofs.Common.{sym, ◌∙◌, subst, ◌+◌}
+use Rattle.std.proofs.Common.{sym, subst, ◌+◌}
 use Rattle.irr_root.specs.Positions.{ArePositionsIn}
-use Rattle.irr_root.proofs.PlacePositions.{placed-next, placed-none, position_of, position_of-member, position_of-number}
+use Rattle.irr_root.proofs.PlacePositions.{placed-next, placed-none}
 use Rattle.irr_root.proofs.positions.positions_of.Goals as goal
 
 pub loop-place-init : goal.loop-place-init
