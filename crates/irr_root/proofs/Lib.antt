@@ -16,3 +16,7 @@ pub mod StepPowers
 pub mod StepTraces
 pub mod PlacePowers
 pub mod ScaledOccurrences
+pub mod TurnedProducts
+pub mod SandwichSums
+pub mod ProductTerms
+pub mod PlacePositions

@@ -3,8 +3,11 @@
 
 mod eigenvalues;
 mod place_powers;
+mod positions;
 mod powers;
+mod products;
 mod repeated;
+mod sandwich;
 mod solutions;
 mod sums;
 mod trace_sums;
