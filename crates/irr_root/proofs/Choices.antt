@@ -1,4 +1,5 @@
 -- One extension of a simple family by its traces, from the sums of its character. The subgroup has the index p = q + 1, 2 or 3.
+--   power-ne-zero            powers of a number that is not 0
 --   meets                    the traces of each extension have the products that the sums say
 --   some_sum                 one of the sums for a place with itself is not 0
 --   root-ne-zero             a number whose power by p is such a sum is not 0
@@ -28,7 +29,7 @@ use Rattle.irr_root.specs.ProductSum.{IsProductSum, MeetsProduct}
 module _ (F : Field) where
   open F use {ring as R}
 
-  power-ne-zero : (x : R.Carrier) → (x ≡ R.zero → ⊥) → (n : ℕ) → number_power R x n ≡ R.zero → ⊥
+  pub power-ne-zero : (x : R.Carrier) → (x ≡ R.zero → ⊥) → (n : ℕ) → number_power R x n ≡ R.zero → ⊥
   unfolding number_power
   power-ne-zero x ne zero = one-ne-zero F
   power-ne-zero x ne (suc n) = mul-ne-zero F x (number_power R x n) ne (power-ne-zero x ne n)

@@ -12,7 +12,9 @@ pub mod LowerPowers
 pub mod Choices
 pub mod Smalls
 pub mod RootLists
+pub mod ChoiceLaws
 pub mod StepPowers
+pub mod WholeNumbers
 pub mod StepTraces
 pub mod PlacePowers
 pub mod ScaledOccurrences

@@ -1,5 +1,6 @@
 pub mod Eigenvalues
 pub mod Characters
+pub mod Choice
 pub mod CyclicStep
 pub mod Positions
 pub mod Powers

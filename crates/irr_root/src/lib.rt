@@ -1,6 +1,7 @@
 //! Eigenvalues of small representations, read off their characters.
 #![tactic(auto)]
 
+mod choice;
 mod eigenvalues;
 mod place_powers;
 mod positions;
