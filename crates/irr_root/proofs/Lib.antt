@@ -13,6 +13,7 @@ pub mod Choices
 pub mod Smalls
 pub mod RootLists
 pub mod ChoiceLaws
+pub mod TraceRows
 pub mod StepPowers
 pub mod WholeNumbers
 pub mod StepTraces
