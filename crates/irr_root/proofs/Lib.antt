@@ -14,6 +14,7 @@ pub mod Smalls
 pub mod RootLists
 pub mod ChoiceLaws
 pub mod TraceRows
+pub mod MadeChoices
 pub mod StepPowers
 pub mod WholeNumbers
 pub mod StepTraces

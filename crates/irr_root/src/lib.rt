@@ -2,7 +2,9 @@
 #![tactic(auto)]
 
 mod choice;
+
 mod eigenvalues;
+mod extensions;
 mod place_powers;
 mod positions;
 mod powers;
@@ -14,5 +16,6 @@ mod sums;
 mod trace_sums;
 mod turned;
 
+pub use extensions::choose;
 pub use eigenvalues::eigen_exponents;
 pub use irr_memory::Memory;
