@@ -19,7 +19,7 @@ use Rattle.irr_root.specs.CyclicStep.{inner_phases, IsCyclicStep, IsSimpleFixed,
 use Rattle.irr_root.specs.Positions.{ArePositionsIn, IsDistinct}
 use Rattle.irr_root.proofs.PlacePositions.{position_of, position_of-member, position_of-number}
 
-few_rows : (d k : ℕ) → 0 < d → d * d ≤ k → k ≤ 48 → d ≤ 48
+pub few_rows : (d k : ℕ) → 0 < d → d * d ≤ k → k ≤ 48 → d ≤ 48
 few_rows d k l a b =
     let one : d * 1 ≤ d * d = Nat.mul-le-mul_left d l in
     let same : d * 1 ≡ d = Nat.mul-one d in
