@@ -1,4 +1,10 @@
 pub mod Eigenvalues
 pub mod Characters
+pub mod Choice
+pub mod CyclicStep
+pub mod Positions
 pub mod Powers
+pub mod ProductSum
 pub mod Repeated
+pub mod RootSums
+pub mod Sandwiches

@@ -23,8 +23,13 @@ use irr_memory::Memory;
 use irr_rep::{Family, Twisted};
 use std::alloc::Global;
 
-// The power z^e of z of the table's order, as a number of another order.
-fn phase<S: Scalar>(alloc: Global, t: &Twisted, order: &Order, e: u32) -> Result<S, Memory>
+/// The power z^e of z of the table's order, as a number of another order.
+pub(crate) fn phase<S: Scalar>(
+    alloc: Global,
+    t: &Twisted,
+    order: &Order,
+    e: u32,
+) -> Result<S, Memory>
     requires admitted { S.admits order.now.n }
     requires divides { (phase_table t.now).order ∣ order.now.n }
     ensures order { IfOk result (λ x. S.order_of x ≡ order.now.n) }

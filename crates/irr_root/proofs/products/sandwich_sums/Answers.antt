@@ -1,0 +1,78 @@
+-- One more sum is added.
+use Rattle.std.proofs.Common.{◌≡◌, subst, ◌<◌, ◌≤◌, length, map, slice_index, ℕ, arith, rules}
+use Rattle.std.proofs.lemmas.List.Elements.{All-get_or}
+use Rattle.irr_algebra.specs.Listed.{sum_below}
+use Rattle.irr_number.specs.Number.{numbers}
+use Rattle.irr_rep.specs.Twisted.{phase_table, place_count}
+use Rattle.irr_space.specs.PhaseTable.{phases_over}
+use Rattle.irr_extension.specs.Product.{sandwich}
+use Rattle.irr_root.specs.Sandwiches.{listed_member}
+use Rattle.irr_root.proofs.SandwichSums.{member-number, outer_terms, sums-next, sums-none, sums-small}
+use Rattle.irr_root.proofs.Smalls.{denominators_of_small, sizes_of_small}
+use Rattle.irr_root.proofs.products.sandwich_sums.Goals as goal
+
+pub loop-k-init : goal.loop-k-init
+loop-k-init g c =
+    let n = c.args.order.now.n in
+    sums-none g.S.Scalar.order_of g.S.Scalar.value n (phase_table c.args.t.now) c.args.x.place c.args.x.exponent c.args.y.place c.args.y.exponent 2304
+    (outer_terms (phase_table c.args.t.now) n c.args.members.now c.args.positions.now (map (g.S.Scalar.value n) c.args.character.now))
+    c.in_ok-sum.sum c.in_ok-sum.ensures.order c.in_ok-sum.ensures.value
+
+pub add-requires-clause-denominators : goal.add-requires-clause-denominators
+add-requires-clause-denominators g c =
+    let order = g.S.Scalar.order_of in
+    let value = g.S.Scalar.value in
+    let n = c.args.order.now.n in
+    let l : c.loop-k.k < length c.args.members.now = search rules in
+    let m : length c.args.members.now ≤ 48 = c.requires.few in
+    denominators_of_small order value (λ x. g.met.S.Scalar.admitted_positive (order x) (g.met.S.Scalar.order_admitted x))
+    (λ x. g.met.S.Scalar.admitted_limited (order x) (g.met.S.Scalar.order_admitted x)) n 110592 2304 c.loop-k.sum c.in_ok-next.next
+    (sums-small order value n (phase_table c.args.t.now) c.args.x.place c.args.x.exponent c.args.y.place c.args.y.exponent 2304
+    (outer_terms (phase_table c.args.t.now) n c.args.members.now c.args.positions.now (map (value n) c.args.character.now))
+    c.loop-k.k 110592 c.loop-k.sum c.loop-k.invariant (omega (arith, l, m)) (omega arith)) c.in_ok-next.ensures.small
+
+pub add-requires-clause-sizes : goal.add-requires-clause-sizes
+add-requires-clause-sizes g c =
+    let order = g.S.Scalar.order_of in
+    let value = g.S.Scalar.value in
+    let n = c.args.order.now.n in
+    let l : c.loop-k.k < length c.args.members.now = search rules in
+    let m : length c.args.members.now ≤ 48 = c.requires.few in
+    sizes_of_small order value (λ x. g.met.S.Scalar.admitted_positive (order x) (g.met.S.Scalar.order_admitted x))
+    (λ x. g.met.S.Scalar.admitted_limited (order x) (g.met.S.Scalar.order_admitted x)) n 110592 2304 c.loop-k.sum c.in_ok-next.next
+    (sums-small order value n (phase_table c.args.t.now) c.args.x.place c.args.x.exponent c.args.y.place c.args.y.exponent 2304
+    (outer_terms (phase_table c.args.t.now) n c.args.members.now c.args.positions.now (map (value n) c.args.character.now))
+    c.loop-k.k 110592 c.loop-k.sum c.loop-k.invariant (omega (arith, l, m)) (omega arith)) c.in_ok-next.ensures.small (omega arith) (omega arith)
+
+pub loop-k-preserved : goal.loop-k-preserved
+loop-k-preserved g c =
+    let order = g.S.Scalar.order_of in
+    let value = g.S.Scalar.value in
+    let n = c.args.order.now.n in
+    let T = phase_table c.args.t.now in
+    let members = c.args.members.now in
+    let positions = c.args.positions.now in
+    let row = c.args.character.now in
+    let x = c.args.x in
+    let y = c.args.y in
+    let z = c.sandwich-z.result in
+    let k = c.loop-k.k in
+    let l : c.loop-k.k < length c.args.members.now = search rules in
+    let m = listed_member T members k in
+    let number = member-number T.start (slice_index members k)
+    (All-get_or (λ (a : ℕ). a < place_count c.args.t.now) members k 0 l c.requires.members) in
+    sums-next order value n T x.place x.exponent y.place y.exponent 2304
+    (outer_terms T n members positions (map (value n) row)) k c.loop-k.sum c.in_ok-next.next c.in_ok-sum-2.sum
+    c.loop-k.invariant c.in_ok-next.ensures.small
+    (λ v a b p q. c.in_ok-next.ensures.sum v a (sandwich (phases_over T n v) b m b) p (c.sandwich-z.ensures.turned n v b b m q q number))
+    c.in_ok-sum-2.ensures.order c.in_ok-sum-2.ensures.value
+
+pub returns-clause-sum : goal.returns-clause-sum
+returns-clause-sum g c v a b p q =
+    let value = g.S.Scalar.value in
+    let n = c.args.order.now.n in
+    let T = phase_table c.args.t.now in
+    let done : c.loop-k.k ≡ length c.args.members.now = search rules in
+    subst (λ m. value n c.loop-k.sum ≡ sum_below (numbers n) m
+    (outer_terms T n c.args.members.now c.args.positions.now (map (value n) c.args.character.now) v a b)) done
+    (c.loop-k.invariant.sum v a b p q)
