@@ -26,11 +26,7 @@ fn lower_number(q: u32, k: u32) -> u32
     ensures power { result ≡ k ^ q }
     ensures few { result ≤ 2304 }
 {
-    if q == 1 {
-        k
-    } else {
-        k * k
-    }
+    if q == 1 { k } else { k * k }
 }
 
 // A natural number, as a number.

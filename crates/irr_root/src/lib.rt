@@ -2,7 +2,6 @@
 #![tactic(auto)]
 
 mod choice;
-
 mod eigenvalues;
 mod extensions;
 mod place_powers;
@@ -16,6 +15,6 @@ mod sums;
 mod trace_sums;
 mod turned;
 
-pub use extensions::choose;
 pub use eigenvalues::eigen_exponents;
+pub use extensions::choose;
 pub use irr_memory::Memory;

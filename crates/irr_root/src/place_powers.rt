@@ -4,7 +4,7 @@ ghost use Rattle.irr_algebra.specs.Fin.{Fin, to_nat};
 ghost use Rattle.irr_rep.specs.Twisted.{phase_table, place_count};
 ghost use Rattle.irr_space.specs.PhaseTable.{exponents_below, place_power};
 
-use crate::turned::{turned_product, Turned};
+use crate::turned::{Turned, turned_product};
 use irr_rep::Twisted;
 
 /// The second or third power of a place, with the exponent of z that the phases of its products add up to.

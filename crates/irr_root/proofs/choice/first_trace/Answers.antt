@@ -41,8 +41,7 @@ first_root-requires-clause-exists g c =
     let em = c.requires.place.2 in
     let u = some-extension d in
     subst (λ n. (r : Number n) × Contains (map (value n) c.as_slice.result.now) r
-    × ((numbers n).mul (value n c.args.factor.now) ((numbers n).mul r (number_power (numbers n) r (c.args.p - 1))) ≡ value n c.in_ok-sum.sum)) (sym c.requires.factor.has_order)
-    (
+    × ((numbers n).mul (value n c.args.factor.now) ((numbers n).mul r (number_power (numbers n) r (c.args.p - 1))) ≡ value n c.in_ok-sum.sum)) (sym c.requires.factor.has_order) (
       u.0 m,
       subst (λ xs. Contains (map (value N) xs) (u.0 m)) (sym c.as_slice.ensures.value)
           (c.in_ok-candidates.ensures.traces c.args.members.now c.args.g N d.step (numbered d) c.args.rows d.family d.traces refl u.0 u.1 m em),

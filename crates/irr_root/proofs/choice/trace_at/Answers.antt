@@ -40,8 +40,7 @@ first_solution-requires-clause-exists g c =
     let m = e.3 in
     let u = e.5 in
     subst (λ n. (r : Number n) × Contains (map (value n) c.as_slice.result.now) r
-    × ((numbers n).mul (value n c.args.factor.now) ((numbers n).mul r (value n c.args.power.now)) ≡ value n c.in_ok-sum.sum)) (sym c.requires.factor.has_order)
-    (
+    × ((numbers n).mul (value n c.args.factor.now) ((numbers n).mul r (value n c.args.power.now)) ≡ value n c.in_ok-sum.sum)) (sym c.requires.factor.has_order) (
       u n,
       subst (λ xs. Contains (map (value N) xs) (u n)) (sym c.as_slice.ensures.value)
           (c.in_ok-candidates.ensures.traces c.args.members.now c.args.g N d.step (numbered d) c.args.rows d.family d.traces refl u e.6 n e.2),
