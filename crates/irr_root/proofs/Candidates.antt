@@ -3,8 +3,7 @@
 --   power-at                 the j-th power of the matrix is a power of z times the matrix at the j-th power of the place
 --   multiplicity-counted     how often z^e is an eigenvalue, from the traces
 --   eigen_exponents          a list of the candidates, each as often as it occurs, has the exponents of the eigenvalues
-use Rattle.std.proofs.Common.{◌≡◌, sym, ◌∙◌, ap, ap₂, refl, subst, ℕ, zero, suc, ◌<◌, ◌≤◌, ◌+◌, ◌-◌, ◌*◌, List, length, slice_index, ◌⊎◌, inl, inr}
-use Rattle.std.proofs.Common.{arith}
+use Rattle.std.proofs.Common.{◌≡◌, sym, ◌∙◌, ap, ap₂, refl, subst, ℕ, zero, suc, ◌<◌, ◌≤◌, ◌+◌, ◌-◌, ◌*◌, List, length, slice_index, ◌⊎◌, inl, inr, arith}
 use Rattle.std.proofs.Math.Nat as Nat
 use Rattle.std.proofs.lemmas.List.Elements.{All-weaker}
 use native.Mathlib.Decide.{dec_le}
@@ -104,16 +103,14 @@ module _ (F : Field) where
             o.0,
             o.1,
             o.2 ∙ sum-ext R (suc n) (λ j. R.mul (power R (power R z (N - e)) (to_nat j)) (trace (matrix_power (D.at g) (to_nat j))))
-                (λ j. R.mul (power R z (exponent_sum T x g (to_nat j) + (N - e) * to_nat j))
-                (trace (D.at (lifted_power (at_place T g) (to_nat j)).place))) term,
+                (λ j. R.mul (power R z (exponent_sum T x g (to_nat j) + (N - e) * to_nat j)) (trace (D.at (lifted_power (at_place T g) (to_nat j)).place))) term,
           )
         where
           term : (j : Fin (suc n)) → R.mul (power R (power R z (N - e)) (to_nat j)) (trace (matrix_power (D.at g) (to_nat j)))
               ≡ R.mul (power R z (exponent_sum T x g (to_nat j) + (N - e) * to_nat j)) (trace (D.at (lifted_power (at_place T g) (to_nat j)).place))
           term j =
               ap (R.mul (power R (power R z (N - e)) (to_nat j)))
-              (ap trace (power-at (to_nat j)) ∙ trace-scale R (power R z (exponent_sum T x g (to_nat j)))
-              (D.at (lifted_power (at_place T g) (to_nat j)).place))
+              (ap trace (power-at (to_nat j)) ∙ trace-scale R (power R z (exponent_sum T x g (to_nat j))) (D.at (lifted_power (at_place T g) (to_nat j)).place))
               ∙ turned R z (trace (D.at (lifted_power (at_place T g) (to_nat j)).place)) (N - e) (exponent_sum T x g (to_nat j)) (to_nat j)
 
       -- the candidates are the numbers z^(r + a q)
@@ -146,19 +143,15 @@ module _ (F : Field) where
 
         module _ (times es : List ℕ) (all : length times ≡ suc n)
             (occur : (a : ℕ) → a < suc n → Occurs (D.at g) (power R z (r + a * q)) (slice_index times a)) (listed : AreRepeated r q times es) where
-          occurs-at : (e : ℕ) → e < N → ((a : Fin (suc n)) → r + to_nat a * q ≡ e → ⊥) ⊎ ((a : Fin (suc n)) × (r + to_nat a * q ≡ e))
-              → Occurs (D.at g) (power R z e) (times_in e es)
+          occurs-at : (e : ℕ) → e < N → ((a : Fin (suc n)) → r + to_nat a * q ≡ e → ⊥) ⊎ ((a : Fin (suc n)) × (r + to_nat a * q ≡ e)) → Occurs (D.at g) (power R z e) (times_in e es)
           occurs-at e l (inl none) =
-              subst (Occurs (D.at g) (power R z e)) (sym
-              (times_in-absent e es (All-weaker (λ f. (a : ℕ) × (a < length times) × (f ≡ r + a * q)) (λ f. f ≡ e → ⊥)
+              subst (Occurs (D.at g) (power R z e)) (sym (times_in-absent e es (All-weaker (λ f. (a : ℕ) × (a < length times) × (f ≡ r + a * q)) (λ f. f ≡ e → ⊥)
               (λ f c s. none (from_nat (suc n) c.0 (subst (λ k. c.0 < k) all c.1))
               (ap (λ k. r + k * q) (to_nat-from_nat (suc n) c.0 (subst (λ k. c.0 < k) all c.1)) ∙ sym c.2 ∙ s)) es listed.each)))
-              (occurs-none F spaces (power R z e) (λ a s. none a
-              (power_inj (r + to_nat a * q) e (candidate-lt (to_nat a) (to_nat-lt a)) l (sym (value a) ∙ s))))
+              (occurs-none F spaces (power R z e) (λ a s. none a (power_inj (r + to_nat a * q) e (candidate-lt (to_nat a) (to_nat-lt a)) l (sym (value a) ∙ s))))
           occurs-at e l (inr found) =
               subst (λ f. Occurs (D.at g) (power R z f) (times_in f es)) found.1
-              (subst (Occurs (D.at g) (power R z (r + to_nat found.0 * q)))
-              (sym (listed.often (to_nat found.0) (subst (λ k. to_nat found.0 < k) (sym all) (to_nat-lt found.0))))
+              (subst (Occurs (D.at g) (power R z (r + to_nat found.0 * q))) (sym (listed.often (to_nat found.0) (subst (λ k. to_nat found.0 < k) (sym all) (to_nat-lt found.0))))
               (occur (to_nat found.0) (to_nat-lt found.0)))
 
           pub eigen_exponents : AreEigenExponents N z (D.at g) es
@@ -166,8 +159,7 @@ module _ (F : Field) where
             below = All-weaker (λ f. (a : ℕ) × (a < length times) × (f ≡ r + a * q)) (λ f. f < N)
                 (λ f c. subst (λ k. k < N) (sym c.2) (candidate-lt c.0 (subst (λ k. c.0 < k) all c.1))) es listed.each;
             increasing = listed.increasing;
-            occurs = λ e l. occurs-at e l (all_or_one (suc n) (λ a. r + to_nat a * q ≡ e → ⊥) (λ a. r + to_nat a * q ≡ e)
-                (λ a. same_number (r + to_nat a * q) e));
+            occurs = λ e l. occurs-at e l (all_or_one (suc n) (λ a. r + to_nat a * q ≡ e → ⊥) (λ a. r + to_nat a * q ≡ e) (λ a. same_number (r + to_nat a * q) e));
             count = listed.count ∙ ap (λ k. total_below k (slice_index times)) all ∙ sym (count_total-below (suc n) (slice_index times))
                 ∙ occurs-total F spaces different (λ a. slice_index times (to_nat a))
                 (λ a. subst (λ v. Occurs (D.at g) v (slice_index times (to_nat a))) (sym (value a)) (occur (to_nat a) (to_nat-lt a)));

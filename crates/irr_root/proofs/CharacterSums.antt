@@ -20,17 +20,14 @@ use Rattle.irr_root.specs.Powers.{ArePowers, power_trace}
 use Rattle.irr_root.proofs.EigenvalueSums.{counted-at}
 use Rattle.irr_root.proofs.Walks.{powers-length}
 
-first-positive : {S : Type 0} (order : S → ℕ) → ((x : S) → 0 < order x) → (n : ℕ) (row : List S) → 0 < length row
-    → AllByRecursion (λ x. order x ≡ n) row → 0 < n
+first-positive : {S : Type 0} (order : S → ℕ) → ((x : S) → 0 < order x) → (n : ℕ) (row : List S) → 0 < length row → AllByRecursion (λ x. order x ≡ n) row → 0 < n
 first-positive order positive n [] l h = absurd (omega (arith, l))
 first-positive order positive n (x ∷ row) l h = subst (λ k. 0 < k) h.0 (positive x)
 
-module _ {S : Type 0} {h : ℕ} (order : S → ℕ) (value : (n : ℕ) → S → Number n) (positive : (x : S) → 0 < order x) (some : 0 < h) (T : PhaseTable h)
-    (row : List S)
+module _ {S : Type 0} {h : ℕ} (order : S → ℕ) (value : (n : ℕ) → S → Number n) (positive : (x : S) → 0 < order x) (some : 0 < h) (T : PhaseTable h) (row : List S)
     (c : IsCharacter order value T row) where
   pub character-positive : 0 < c.n
-  character-positive = first-positive order positive c.n row (subst (λ k. 0 < k) (sym c.is_row.count) some)
-      (recursion_from_All (λ x. order x ≡ c.n) row c.is_row.orders)
+  character-positive = first-positive order positive c.n row (subst (λ k. 0 < k) (sym c.is_row.count) some) (recursion_from_All (λ x. order x ≡ c.n) row c.is_row.orders)
 
   pub character-small : IsSmallRow order value c.n h row
   character-small = small_row T c.n character-positive c.divides order value c.representation row c.few c.is_row
@@ -45,7 +42,6 @@ module _ {S : Type 0} {h : ℕ} (order : S → ℕ) (value : (n : ℕ) → S →
       let few : length places * o.0 ≤ 12000 * 48 = Nat.mul-le-mul (Nat.le_trans (powers-length T p w) limited) (Nat.le_trans o.3 c.few) in (
         o.0,
         o.1,
-        subst (λ u. sum_below (numbers u) (length places) (power_trace u T.order (map (value u) row) places exponents e) ≡ whole (numbers u)
-            (length places * o.0)) (sym is) o.2,
+        subst (λ u. sum_below (numbers u) (length places) (power_trace u T.order (map (value u) row) places exponents e) ≡ whole (numbers u) (length places * o.0)) (sym is) o.2,
         omega (arith, few),
       )

@@ -13,8 +13,7 @@
 --   trace-meets              the traces of each extension have the products that the sums say
 --   first-continued          a number with the power that the sum says is the trace of an extension
 --   all-chosen               numbers with the products that the sums say are the traces of an extension
-use Rattle.std.proofs.Common.{◌≡◌, sym, ◌∙◌, ap, ap₂, subst, ℕ, zero, suc, ◌<◌, ◌≤◌, ◌+◌, ◌-◌, ◌^◌, ◌⊎◌, inl, inr, List, length, slice_index, All, arith}
-use Rattle.std.specs.Int.{◌∣◌}
+use Rattle.std.proofs.Common.{◌≡◌, sym, ◌∙◌, ap, ap₂, subst, ℕ, suc, ◌<◌, ◌-◌, ◌^◌, ◌⊎◌, inl, inr, List, slice_index, All, arith}
 use Rattle.std.proofs.lemmas.List.Elements.{All-from_get_or}
 use Rattle.irr_algebra.specs.Ring.{whole}
 use Rattle.irr_algebra.specs.Field.{Field}
@@ -25,7 +24,6 @@ use Rattle.irr_algebra.proofs.Indices.{from_nat, to_nat-from_nat, to_nat-lt}
 use Rattle.irr_algebra.proofs.Rings.{mul-zero}
 use Rattle.irr_number.specs.Number.{Number, numbers}
 use Rattle.irr_number.proofs.NumberField.{number_field}
-use Rattle.irr_clifford.specs.Cyclic.{IsExtension}
 use Rattle.irr_clifford.specs.FromTraces.{AreExtensionTraces}
 use Rattle.irr_clifford.specs.Roots.{number_power}
 use Rattle.irr_space.specs.PhaseTable.{PhaseTable}
@@ -66,7 +64,8 @@ module _ {S : Type 0} {h k : ℕ} {order : S → ℕ} {value : (n : ℕ) → S �
   inner-positive = positive_of K.start
 
   pub member-lt : (i : ℕ) → i < k → slice_index members i < h
-  member-lt i l = subst (λ a. a < h) (sym (c.step.member (from_nat k i l)) ∙ ap (slice_index members) (to_nat-from_nat k i l)) (to_nat-lt (c.step.part.place (from_nat k i l)))
+  member-lt i l = subst (λ a. a < h) (sym (c.step.member (from_nat k i l))
+      ∙ ap (slice_index members) (to_nat-from_nat k i l)) (to_nat-lt (c.step.part.place (from_nat k i l)))
 
   pub members-below : All (λ a. a < h) members
   members-below = All-from_get_or (λ a. a < h) members 0 (λ i l. member-lt i (subst (λ s. i < s) c.step.count l))
@@ -75,7 +74,8 @@ module _ {S : Type 0} {h k : ℕ} {order : S → ℕ} {value : (n : ℕ) → S �
   generator-lt = subst (λ a. a < h) c.step.generator (to_nat-lt c.step.quotient.generator)
 
   position-lt : (i : ℕ) → i < h → slice_index positions i < k
-  position-lt i l = subst (λ a. a < k) (sym (c.placed (from_nat h i l)) ∙ ap (slice_index positions) (to_nat-from_nat h i l)) (to_nat-lt (c.position (from_nat h i l)))
+  position-lt i l = subst (λ a. a < k) (sym (c.placed (from_nat h i l))
+      ∙ ap (slice_index positions) (to_nat-from_nat h i l)) (to_nat-lt (c.position (from_nat h i l)))
 
   pub positions-below : All (λ q. q < k) positions
   positions-below = All-from_get_or (λ q. q < k) positions 0 (λ i l. position-lt i (subst (λ s. i < s) c.all_placed l))
@@ -92,7 +92,8 @@ module _ {S : Type 0} {h k : ℕ} {order : S → ℕ} {value : (n : ℕ) → S �
   pub some-extension : (u : Fin k → Number M) × AreExtensionTraces c.step.quotient c.family u
   some-extension =
       let small : (c.step.quotient.index ≡ 2) ⊎ (c.step.quotient.index ≡ 3) = subst (λ i. (i ≡ 2) ⊎ (i ≡ 3)) (sym c.step.index) c.step.two_or_three in
-      let e = extension_exists (number_field M c.step.positive) c.step.quotient c.family c.fixed.positive small c.fixed.simple (cycles T M c.step.divides c.step.positive) c.fixed.fixed in (
+      let e = extension_exists (number_field M c.step.positive) c.step.quotient c.family c.fixed.positive small c.fixed.simple
+      (cycles T M c.step.divides c.step.positive) c.fixed.fixed in (
         λ n. trace (e.2.0.at (coset_place c.step n)),
         record { family = e.2.0; at-member = e.2.1.at-member; trace-coset = λ n. λ i. trace (e.2.0.at (coset_place c.step n)) },
       )
@@ -106,7 +107,8 @@ module _ {S : Type 0} {h k : ℕ} {order : S → ℕ} {value : (n : ℕ) → S �
 
   pub trace-meets : (u : Fin k → Number M) → AreExtensionTraces c.step.quotient c.family u → (n m : Fin k) (x : Number M) → IsSumAt c n m x
       → MeetsProduct (numbers M) (whole (numbers M) k) (whole (numbers M) d) (p - 1) (u n) (u m) x
-  trace-meets u extension n m x is = meets (number_field M c.step.positive) c.step.quotient c.family c.fixed.positive c.fixed.simple c.position c.at_member
+  trace-meets u extension n m x is = meets
+      (number_field M c.step.positive) c.step.quotient c.family c.fixed.positive c.fixed.simple c.position c.at_member
       u extension (p - 1) index-after one-or-two n m x is
 
   pub some-sum : (m : Fin k) × ((x : Number M) → IsSumAt c m m x → x ≡ (numbers M).zero → ⊥)
@@ -119,18 +121,23 @@ module _ {S : Type 0} {h k : ℕ} {order : S → ℕ} {value : (n : ℕ) → S �
       ∙ ap ((numbers M).mul (number_power (numbers M) (whole (numbers M) d) (p - 1))) (sum-unique n m t.total x t.is_sum is ∙ z)
       ∙ mul-zero (numbers M) (number_power (numbers M) (whole (numbers M) d) (p - 1))
 
-  pub target-not-zero : (n m : Fin k) (r : Number M) → IsTarget c n m r → ((x : Number M) → IsSumAt c n m x → x ≡ (numbers M).zero → ⊥) → r ≡ (numbers M).zero → ⊥
+  pub target-not-zero : (n m : Fin k) (r : Number M) → IsTarget c n m r → ((x : Number M) → IsSumAt c n m x → x ≡ (numbers M).zero → ⊥)
+      → r ≡ (numbers M).zero → ⊥
   target-not-zero n m r t ne z = mul-ne-zero (number_field M c.step.positive) (number_power (numbers M) (whole (numbers M) d) (p - 1)) t.total
-      (power-ne-zero (number_field M c.step.positive) (whole (numbers M) d) (whole-ne-zero (number_field M c.step.positive) d c.fixed.positive) (p - 1))
+      (power-ne-zero (number_field M c.step.positive) (whole (numbers M) d) (whole-ne-zero (number_field M c.step.positive) d c.fixed.positive)
+      (p - 1))
       (ne t.total t.is_sum) (sym t.product ∙ z)
 
   pub first-continued : (m : Fin k) (s : Number M) → IsTraceAt c s m m s → ((x : Number M) → IsSumAt c m m x → x ≡ (numbers M).zero → ⊥)
       → (u : Fin k → Number M) × AreExtensionTraces c.step.quotient c.family u × (u m ≡ s)
-  first-continued m s t ne = continued (number_field M c.step.positive) c.step.quotient c.family c.fixed.positive c.fixed.simple c.position c.at_member
+  first-continued m s t ne = continued (number_field M c.step.positive) c.step.quotient c.family c.fixed.positive c.fixed.simple c.position
+      c.at_member
       some-extension.0 some-extension.1 (p - 1) index-after one-or-two m s t.total t.is_sum (ne t.total t.is_sum) t.meets
 
-  pub first-not-zero : (m : Fin k) (s : Number M) → IsTraceAt c s m m s → ((x : Number M) → IsSumAt c m m x → x ≡ (numbers M).zero → ⊥) → s ≡ (numbers M).zero → ⊥
-  first-not-zero m s t ne = root-ne-zero (number_field M c.step.positive) c.step.quotient c.family c.fixed.positive c.fixed.simple c.position c.at_member
+  pub first-not-zero : (m : Fin k) (s : Number M) → IsTraceAt c s m m s → ((x : Number M) → IsSumAt c m m x → x ≡ (numbers M).zero → ⊥)
+      → s ≡ (numbers M).zero → ⊥
+  first-not-zero m s t ne = root-ne-zero (number_field M c.step.positive) c.step.quotient c.family c.fixed.positive c.fixed.simple c.position
+      c.at_member
       (p - 1) s t.total t.meets (ne t.total t.is_sum)
 
   pub all-chosen : (m : Fin k) (s : Fin k → Number M) → (s m ≡ (numbers M).zero → ⊥) → ((n : Fin k) → IsTraceAt c (s m) n m (s n))
@@ -164,18 +171,22 @@ module _ {S : Type 0} {h k : ℕ} {order : S → ℕ} {value : (n : ℕ) → S �
 
   pub trace-unique : (n m : Fin k) (s r q : Number M) → (s ≡ (numbers M).zero → ⊥) → IsTraceAt c s n m r → IsTraceAt c s n m q → r ≡ q
   trace-unique n m s r q ne a b =
-      mul_cancel (number_field M c.step.positive) (number_power (numbers M) s (p - 1)) r q (power-ne-zero (number_field M c.step.positive) s ne (p - 1))
+      mul_cancel (number_field M c.step.positive) (number_power (numbers M) s (p - 1)) r q (power-ne-zero (number_field M c.step.positive) s ne
+      (p - 1))
       ((numbers M).mul_comm (number_power (numbers M) s (p - 1)) r
       ∙ mul_cancel (number_field M c.step.positive) (number_power (numbers M) (whole (numbers M) k) (p - 1))
       ((numbers M).mul r (number_power (numbers M) s (p - 1))) ((numbers M).mul q (number_power (numbers M) s (p - 1)))
       (power-ne-zero (number_field M c.step.positive) (whole (numbers M) k) (whole-ne-zero (number_field M c.step.positive) k inner-positive) (p - 1))
-      (a.meets ∙ ap ((numbers M).mul (number_power (numbers M) (whole (numbers M) d) (p - 1))) (sum-unique n m a.total b.total a.is_sum b.is_sum) ∙ sym b.meets)
+      (a.meets ∙ ap ((numbers M).mul (number_power (numbers M) (whole (numbers M) d) (p - 1))) (sum-unique n m a.total b.total a.is_sum b.is_sum)
+      ∙ sym b.meets)
       ∙ (numbers M).mul_comm q (number_power (numbers M) s (p - 1)))
 
-  pub target-of : (n m : Fin k) (f x r : Number M) (b : ℕ) → IsProductSum (step_subgroup c.step) p (λ i. trace (c.family.at i)) c.position (coset_place c.step n) (coset_place c.step m) x
+  pub target-of : (n m : Fin k) (f x r : Number M) (b : ℕ) → IsProductSum (step_subgroup c.step) p (λ i. trace (c.family.at i)) c.position
+      (coset_place c.step n) (coset_place c.step m) x
       → b ≡ d ^ (p - 1) → f ≡ whole (numbers M) b → r ≡ (numbers M).mul f x → IsTarget c n m r
   target-of n m f x r b is eb ef er = record {
     total = x;
-    is_sum = subst (λ i. IsProductSum (step_subgroup c.step) i (λ i. trace (c.family.at i)) c.position (coset_place c.step n) (coset_place c.step m) x) (sym c.step.index) is;
+    is_sum = subst (λ i. IsProductSum (step_subgroup c.step) i (λ i. trace (c.family.at i)) c.position (coset_place c.step n)
+        (coset_place c.step m) x) (sym c.step.index) is;
     product = er ∙ ap (λ a. (numbers M).mul a x) (ef ∙ ap (whole (numbers M)) eb ∙ whole_power (numbers M) d (p - 1));
   }

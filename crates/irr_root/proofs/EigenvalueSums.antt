@@ -1,8 +1,7 @@
 -- The eigenvalues at a place of a table of phases, over an order that the table's order divides.
 --   counted-at               how often z^e is an eigenvalue, from the traces
 --   exponents-at             the exponents of the eigenvalues
-use Rattle.std.proofs.Common.{◌≡◌, sym, ◌∙◌, ap, ap₂, refl, subst, ℕ, zero, suc, ◌<◌, ◌≤◌, ◌+◌, ◌-◌, ◌*◌, ◌/◌, ◌%◌, List, length, get_or, slice_index}
-use Rattle.std.proofs.Common.{arith}
+use Rattle.std.proofs.Common.{◌≡◌, sym, ◌∙◌, ap, ap₂, refl, subst, ℕ, zero, suc, ◌<◌, ◌≤◌, ◌+◌, ◌-◌, ◌*◌, ◌/◌, ◌%◌, List, length, get_or, slice_index, arith}
 use native.Mathlib.Nat as Nat
 use Rattle.std.specs.Int.{◌∣◌}
 use Rattle.irr_algebra.specs.Fin.{Fin, to_nat}
@@ -35,12 +34,10 @@ pub positive-factor : (N m q : ℕ) → 0 < N → N ≡ m * q → 0 < q
 positive-factor N m zero l e = absurd (omega (arith, e, Nat.mul-zero m))
 positive-factor N m (suc q) l e = omega arith
 
-term-at : (n N : ℕ) (f : List (Number n)) (places exponents : List ℕ) (e j s k : ℕ) (x u : Number n) → slice_index exponents j ≡ s
-    → slice_index places j ≡ k
+term-at : (n N : ℕ) (f : List (Number n)) (places exponents : List ℕ) (e j s k : ℕ) (x u : Number n) → slice_index exponents j ≡ s → slice_index places j ≡ k
     → x ≡ root_power n ((s + (N - e) * j) * (n / N)) → u ≡ get_or f k (numbers n).zero → (numbers n).mul x u ≡ power_trace n N f places exponents e j
 unfolding power_trace
-term-at n N f places exponents e j s k x u is at p q = ap₂ (numbers n).mul (p ∙ ap (λ i. root_power n ((i + (N - e) * j) * (n / N))) (sym is))
-    (q ∙ ap (λ i. get_or f i (numbers n).zero) (sym at))
+term-at n N f places exponents e j s k x u is at p q = ap₂ (numbers n).mul (p ∙ ap (λ i. root_power n ((i + (N - e) * j) * (n / N))) (sym is)) (q ∙ ap (λ i. get_or f i (numbers n).zero) (sym at))
 
 module _ {h : ℕ} (T : PhaseTable h) (n : ℕ) (positive : 0 < n) (v : T.order ∣ n) where
   abbrev pub z : Number n
@@ -78,23 +75,19 @@ module _ {h : ℕ} (T : PhaseTable h) (n : ℕ) (positive : 0 < n) (v : T.order 
         counted-at e l same = at_length (length places) refl
           where
             at_length : (m : ℕ) → length places ≡ m → (k : ℕ) × Occurs (D.at p) (power (numbers n) z e) k
-                × (sum_below (numbers n) (length places) (power_trace n T.order f places exponents e) ≡ whole (numbers n)
-                (length places * k)) × (k ≤ d)
+                × (sum_below (numbers n) (length places) (power_trace n T.order f places exponents e) ≡ whole (numbers n) (length places * k)) × (k ≤ d)
             at_length zero is = absurd (let l : 0 < length places = w.is_order.positive in omega (arith, is, l))
             at_length (suc m) is =
                 let q : (q : ℕ) × (T.order ≡ length places * q) = cofactor (length places) T.order (T.order_divides p (length places) w.is_order) in
                 let split : T.order ≡ suc m * q.0 = q.1 ∙ ap (λ k. k * q.0) is in
-                let o = multiplicity-counted (number_field n positive) T.order z T.exponent (exponents_over T n positive v) T.order_positive D p m
-                (returns (suc m) is) q.0 split
-                (positive-factor T.order (suc m) q.0 T.order_positive split) e (let s : e ≤ T.order = omega (arith, l) in s)
-                (turns (suc m) e is (ap (λ k. k * e % T.order) (sym is) ∙ same)) in (
+                let o = multiplicity-counted (number_field n positive) T.order z T.exponent (exponents_over T n positive v) T.order_positive D p m (returns (suc m) is) q.0 split
+                (positive-factor T.order (suc m) q.0 T.order_positive split) e (let s : e ≤ T.order = omega (arith, l) in s) (turns (suc m) e is (ap (λ k. k * e % T.order) (sym is) ∙ same)) in (
                   o.0,
                   o.1,
                   ap (λ k. sum_below (numbers n) k (power_trace n T.order f places exponents e)) is
                       ∙ sym (sum-to_nat (numbers n) (suc m) (power_trace n T.order f places exponents e))
                       ∙ sym (sum-ext (numbers n) (suc m)
-                      (λ j. (numbers n).mul (power (numbers n) z (exponent_sum (phases_over T n v) T.exponent p
-                      (to_nat j) + (T.order - e) * to_nat j))
+                      (λ j. (numbers n).mul (power (numbers n) z (exponent_sum (phases_over T n v) T.exponent p (to_nat j) + (T.order - e) * to_nat j))
                       (trace (D.at (lifted_power (at_place (phases_over T n v) p) (to_nat j)).place)))
                       (λ j. power_trace n T.order f places exponents e (to_nat j)) (λ j. term j (subst (λ k. to_nat j < k) (sym is) (to_nat-lt j))))
                       ∙ sym o.2 ∙ sym (whole-mul (numbers n) (suc m) o.0) ∙ ap (λ k. whole (numbers n) (k * o.0)) (sym is),
@@ -103,8 +96,7 @@ module _ {h : ℕ} (T : PhaseTable h) (n : ℕ) (positive : 0 < n) (v : T.order 
               where
                 term : (j : Fin (suc m)) → to_nat j < length places
                     → (numbers n).mul (power (numbers n) z (exponent_sum (phases_over T n v) T.exponent p (to_nat j) + (T.order - e) * to_nat j))
-                    (trace (D.at (lifted_power (at_place (phases_over T n v) p) (to_nat j)).place)) ≡ power_trace n T.order f places exponents e
-                    (to_nat j)
+                    (trace (D.at (lifted_power (at_place (phases_over T n v) p) (to_nat j)).place)) ≡ power_trace n T.order f places exponents e (to_nat j)
                 term j l = term-at n T.order f places exponents e (to_nat j) (exponent_sum (phases_over T n v) T.exponent p (to_nat j))
                     (to_nat (lifted_power (at_place (phases_over T n v) p) (to_nat j)).place) _ _
                     (w.exponent (to_nat j) l ∙ sym (sum-at (to_nat j))) (w.place (to_nat j) l ∙ ap to_nat (sym (place-at (to_nat j))))
@@ -121,7 +113,6 @@ module _ {h : ℕ} (T : PhaseTable h) (n : ℕ) (positive : 0 < n) (v : T.order 
           at_length zero is = absurd (let l : 0 < length places = w.is_order.positive in omega (arith, is, l))
           at_length (suc m) is =
               let split' : T.order ≡ suc m * q = split ∙ ap (λ k. k * q) is in
-              eigen_exponents (number_field n positive) T.order z T.exponent (exponents_over T n positive v) T.order_positive D p m
-              (returns (suc m) is) q split'
+              eigen_exponents (number_field n positive) T.order z T.exponent (exponents_over T n positive v) T.order_positive D p m (returns (suc m) is) q split'
               (positive-factor T.order (suc m) q T.order_positive split') r small (turns (suc m) r is (ap (λ k. k * r % T.order) (sym is) ∙ same))
               times es (all ∙ is) (λ a l. occur a (subst (λ k. a < k) (sym is) l)) listed

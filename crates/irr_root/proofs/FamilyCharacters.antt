@@ -23,8 +23,7 @@ module _ {S : Type 0} {G : Ghosts S} {h : ℕ} (T : PhaseTable h) (n : ℕ) (v :
   abbrev pub family-character : IsCharacter G.order_of G.value T row
   family-character = record { n = n; divides = v; size = d; few = few; representation = representation T n v d mats p; is_row = family-row }
 
-pub family-exponents : {S : Type 0} {G : Ghosts S} {h : ℕ} (T : PhaseTable h) (n : ℕ) (v : T.order ∣ n) (d : ℕ) (mats : List (Mat S G))
-    (p : IsRepresentationOf T n v d mats)
+pub family-exponents : {S : Type 0} {G : Ghosts S} {h : ℕ} (T : PhaseTable h) (n : ℕ) (v : T.order ∣ n) (d : ℕ) (mats : List (Mat S G)) (p : IsRepresentationOf T n v d mats)
     (N : ℕ) (z : Number n) (i : Fin h) (es : List ℕ) → AreEigenExponents {R = numbers n} {d = d} N z ((representation T n v d mats p).at i) es
     → AreEigenExponents {R = numbers n} {d = d} N z (matrix_at n d mats i) es
 unfolding representation

@@ -3,9 +3,9 @@
 --   rows-few                 there are at most 48 rows
 --   row-of                   the row of the family's traces
 --   choice-made              the step with the family
-use Rattle.std.proofs.Common.{◌≡◌, sym, ◌∙◌, ap, subst, ℕ, ◌<◌, ◌≤◌, ◌*◌, List, length, slice_index, arith}
+use Rattle.std.proofs.Common.{◌≡◌, sym, ◌∙◌, ap, subst, ℕ, ◌<◌, ◌≤◌, ◌*◌, List, slice_index, arith}
 use native.Mathlib.Nat as Nat
-use Rattle.irr_algebra.specs.Fin.{Fin, to_nat}
+use Rattle.irr_algebra.specs.Fin.{to_nat}
 use Rattle.irr_algebra.specs.Matrix.{trace}
 use Rattle.irr_algebra.proofs.Indices.{from_nat, to_nat-from_nat, to_nat_inj}
 use Rattle.irr_theory.specs.FactorSystem.{Representation}
@@ -31,12 +31,15 @@ module _ {h k : ℕ} {T : PhaseTable h} {K : PhaseTable k} {members : List ℕ} 
       let below-a : a < k = subst (λ l. a < l) step.count la in
       let below-b : b < k = subst (λ l. b < l) step.count lb in
       sym (to_nat-from_nat k a below-a)
-      ∙ ap to_nat (step.part.injective (from_nat k a below-a) (from_nat k b below-b) (to_nat_inj (step.part.place (from_nat k a below-a)) (step.part.place (from_nat k b below-b))
-      (sym (step.member (from_nat k a below-a)) ∙ ap (slice_index members) (to_nat-from_nat k a below-a) ∙ e ∙ sym (ap (slice_index members) (to_nat-from_nat k b below-b))
+      ∙ ap to_nat (step.part.injective (from_nat k a below-a) (from_nat k b below-b) (to_nat_inj (step.part.place (from_nat k a below-a))
+      (step.part.place (from_nat k b below-b))
+      (sym (step.member (from_nat k a below-a)) ∙ ap (slice_index members) (to_nat-from_nat k a below-a) ∙ e
+      ∙ sym (ap (slice_index members) (to_nat-from_nat k b below-b))
       ∙ step.member (from_nat k b below-b))))
       ∙ to_nat-from_nat k b below-b
 
-  module _ {S : Type 0} {G : Ghosts S} {d : ℕ} (D : Representation (inner_phases step) d) (fixed : IsSimpleFixed step D) (f : Family S G) (made : HasMatrices step D f)
+  module _ {S : Type 0} {G : Ghosts S} {d : ℕ} (D : Representation (inner_phases step) d) (fixed : IsSimpleFixed step D) (f : Family S G)
+      (made : HasMatrices step D f)
       (few : k ≤ 48) where
     pub row-of : (row : List S) → IsRowOf {h = k} G.order_of G.value M (λ i. trace (matrix_at M f.dim f.mats.items i)) row
         → IsRowOf {h = k} G.order_of G.value M (λ i. trace (D.at i)) row

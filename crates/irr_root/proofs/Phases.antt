@@ -27,8 +27,7 @@ root_power-rest N n e positive divides = root_power_same n (e % N * (n / N)) (e 
 
 pub rest_of_product-lt : (N n e : ℕ) → 0 < N → 0 < n → N ∣ n → e % N * (n / N) < n
 rest_of_product-lt N n e positive above divides =
-    subst (λ k. e % N * (n / N) < k) (sym (order_product N n positive divides))
-    (Nat.mul-lt-mul_of_pos_right (Nat.mod-lt e positive) (quotient (n / N) (order_product N n positive divides)))
+    subst (λ k. e % N * (n / N) < k) (sym (order_product N n positive divides)) (Nat.mul-lt-mul_of_pos_right (Nat.mod-lt e positive) (quotient (n / N) (order_product N n positive divides)))
   where
     quotient : (c : ℕ) → n ≡ N * c → 0 < c
     quotient zero e = absurd (omega (arith, e, above))

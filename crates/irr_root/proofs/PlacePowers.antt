@@ -1,10 +1,10 @@
 -- Second and third powers of a place with their exponents.
 --   square-place, square-exponent     x x
 --   cube-place, cube-exponent         x (x x)
-use Rattle.std.specs.Prelude.{ℕ, zero, suc, ◌≡◌, ◌<◌, ◌+◌, ◌%◌}
-use Rattle.std.proofs.Common.{sym, ◌∙◌, ap, ap₂, refl, subst, arith}
+use Rattle.std.specs.Prelude.{ℕ, ◌≡◌, ◌+◌, ◌%◌}
+use Rattle.std.proofs.Common.{sym, ◌∙◌, ap, ap₂, refl, arith}
 use Rattle.std.proofs.Math.Nat as Nat
-use Rattle.irr_algebra.specs.Fin.{Fin, to_nat}
+use Rattle.irr_algebra.specs.Fin.{Fin}
 use Rattle.irr_space.specs.PhaseTable.{exponents_below, PhaseTable, place_power}
 
 from_zero : (a b k : ℕ) → a ≡ 0 → b ≡ k → 0 + a + b ≡ k
@@ -29,7 +29,8 @@ module _ {h : ℕ} (T : PhaseTable h) (q : Fin h) where
 
   square-sum : exponents_below T.start T.product T.exponent q 2 ≡ T.exponent q q
   unfolding exponents_below
-  square-sum = from_zero (T.exponent q (place_power T.start T.product q 0)) (T.exponent q (place_power T.start T.product q 1)) (T.exponent q q) start-sum
+  square-sum = from_zero (T.exponent q (place_power T.start T.product q 0)) (T.exponent q (place_power T.start T.product q 1))
+      (T.exponent q q) start-sum
       (ap (T.exponent q) one-place)
 
   cube-sum : exponents_below T.start T.product T.exponent q 3 ≡ T.exponent q q + T.exponent q (T.product q q)
@@ -43,7 +44,8 @@ module _ {h : ℕ} (T : PhaseTable h) (q : Fin h) where
       → e ≡ exponents_below T.start T.product T.exponent q 3 % T.order
   cube-exponent e f square is =
       is ∙ ap (λ k. (k + T.exponent q (T.product q q)) % T.order)
-      (zero_more f ∙ square ∙ ap (λ k. k % T.order) (from_zero 0 (T.exponent q q) (T.exponent q q) refl refl) ∙ Nat.mod-eq_of_lt (T.exponent_below q q))
+      (zero_more f ∙ square ∙ ap (λ k. k % T.order) (from_zero 0 (T.exponent q q) (T.exponent q q) refl refl)
+      ∙ Nat.mod-eq_of_lt (T.exponent_below q q))
       ∙ ap (λ k. k % T.order) (sym cube-sum)
     where
       zero_more : (k : ℕ) → 0 + k ≡ k

@@ -2,8 +2,7 @@
 --   times_in-absent          a number that is not in a list
 --   repetitions              the numbers first, first + step, .. below the n-th, each as often as `times` says
 --   repetitions-repeated     they are such a list
-use Rattle.std.proofs.Common.{◌≡◌, sym, ◌∙◌, ap, ap₂, subst, ℕ, zero, suc, ◌<◌, ◌≤◌, ◌+◌, ◌-◌, ◌*◌, List, [], ◌∷◌, ◌++◌, length, replicate, get_or}
-use Rattle.std.proofs.Common.{slice_index, All, add-one, arith}
+use Rattle.std.proofs.Common.{◌≡◌, sym, ◌∙◌, ap, ap₂, subst, ℕ, zero, suc, ◌<◌, ◌≤◌, ◌+◌, ◌-◌, ◌*◌, List, [], ◌∷◌, ◌++◌, length, replicate, get_or, slice_index, All, add-one, arith}
 use Rattle.std.specs.Prelude.{cond, nat_eq, Bool, true, false}
 use Rattle.std.specs.List.{AllByRecursion}
 use Rattle.std.proofs.Math.Nat as Nat
@@ -71,8 +70,7 @@ module _ (first step : ℕ) (times : ℕ → ℕ) where
   repetitions-length : (n : ℕ) → length (repetitions n) ≡ total_below n times
   unfolding repetitions total_below
   repetitions-length zero = λ i. 0
-  repetitions-length (suc n) = length-append (repetitions n) (replicate (times n) (first + n * step))
-      ∙ ap₂ (λ a b. a + b) (repetitions-length n) (length-replicate (times n) (first + n * step))
+  repetitions-length (suc n) = length-append (repetitions n) (replicate (times n) (first + n * step)) ∙ ap₂ (λ a b. a + b) (repetitions-length n) (length-replicate (times n) (first + n * step))
 
   times_in-none : (e n : ℕ) → ((a : ℕ) → a < n → first + a * step ≡ e → ⊥) → times_in e (repetitions n) ≡ 0
   unfolding repetitions
@@ -93,13 +91,10 @@ module _ (first step : ℕ) (times : ℕ → ℕ) where
     times_in-number : (n a : ℕ) → a < n → times_in (first + a * step) (repetitions n) ≡ times a
     unfolding repetitions
     times_in-number zero a l = absurd (omega arith)
-    times_in-number (suc n) a l = times_in-append (first + a * step) (repetitions n) (replicate (times n) (first + n * step))
-        ∙ cases (λ s. times_in-number n a s) (dec_le (suc a) n)
+    times_in-number (suc n) a l = times_in-append (first + a * step) (repetitions n) (replicate (times n) (first + n * step)) ∙ cases (λ s. times_in-number n a s) (dec_le (suc a) n)
       where
-        cases : (suc a ≤ n → times_in (first + a * step) (repetitions n) ≡ times a) → Dec (suc a ≤ n)
-            → times_in (first + a * step) (repetitions n) + times_in (first + a * step) (replicate (times n) (first + n * step)) ≡ times a
-        cases before (yes s) = ap₂ (λ a b. a + b) (before s) (times_in-other (times n) (first + n * step) (first + a * step) (number-ne a n s))
-            ∙ Nat.add-zero (times a)
+        cases : (suc a ≤ n → times_in (first + a * step) (repetitions n) ≡ times a) → Dec (suc a ≤ n) → times_in (first + a * step) (repetitions n) + times_in (first + a * step) (replicate (times n) (first + n * step)) ≡ times a
+        cases before (yes s) = ap₂ (λ a b. a + b) (before s) (times_in-other (times n) (first + n * step) (first + a * step) (number-ne a n s)) ∙ Nat.add-zero (times a)
         cases before (no s) =
             let is : n ≡ a = omega (arith, l, s) in
             ap₂ (λ a b. a + b) (times_in-none (first + a * step) n (λ b m e. number-ne b a (subst (λ k. b < k) is m) (sym e)))
@@ -113,48 +108,39 @@ module _ (first step : ℕ) (times : ℕ → ℕ) where
     repetitions-bound (suc n) i l = cases (λ s. repetitions-bound n i s) (dec_le (suc i) (length (repetitions n)))
       where
         total : length (repetitions n ++ replicate (times n) (first + n * step)) ≡ length (repetitions n) + times n
-        total = length-append (repetitions n) (replicate (times n) (first + n * step))
-            ∙ ap (λ k. length (repetitions n) + k) (length-replicate (times n) (first + n * step))
+        total = length-append (repetitions n) (replicate (times n) (first + n * step)) ∙ ap (λ k. length (repetitions n) + k) (length-replicate (times n) (first + n * step))
 
         cases : (suc i ≤ length (repetitions n) → get_or (repetitions n) i 0 < first + n * step) → Dec (suc i ≤ length (repetitions n))
             → get_or (repetitions n ++ replicate (times n) (first + n * step)) i 0 < first + suc n * step
-        cases known (yes s) = subst (λ k. k < first + suc n * step)
-            (sym (get_or-append (repetitions n) (replicate (times n) (first + n * step)) 0 i s))
+        cases known (yes s) = subst (λ k. k < first + suc n * step) (sym (get_or-append (repetitions n) (replicate (times n) (first + n * step)) 0 i s))
             (let before : get_or (repetitions n) i 0 < first + n * step = known s in
             let next : first + n * step < first + suc n * step = number-lt n (suc n) (omega arith) in omega arith)
         cases known (no s) = subst (λ k. k < first + suc n * step)
-            (sym (get_or-append_right (repetitions n) (replicate (times n) (first + n * step)) (length (repetitions n)) i 0
-            (λ k. length (repetitions n)) (omega (arith, s))
+            (sym (get_or-append_right (repetitions n) (replicate (times n) (first + n * step)) (length (repetitions n)) i 0 (λ k. length (repetitions n)) (omega (arith, s))
             ∙ get_or-replicate (times n) (i - length (repetitions n)) (first + n * step) 0 (omega (arith, total, l, s))))
             (number-lt n (suc n) (omega arith))
 
     repetitions-increasing : (n i j : ℕ) → i ≤ j → j < length (repetitions n) → get_or (repetitions n) i 0 ≤ get_or (repetitions n) j 0
     unfolding repetitions
     repetitions-increasing zero i j le l = absurd (omega arith)
-    repetitions-increasing (suc n) i j le l = cases (λ t. repetitions-increasing n i j le t) (dec_le (suc i) (length (repetitions n)))
-        (dec_le (suc j) (length (repetitions n)))
+    repetitions-increasing (suc n) i j le l = cases (λ t. repetitions-increasing n i j le t) (dec_le (suc i) (length (repetitions n))) (dec_le (suc j) (length (repetitions n)))
       where
         all : List ℕ
         all = repetitions n ++ replicate (times n) (first + n * step)
 
         total : length (repetitions n ++ replicate (times n) (first + n * step)) ≡ length (repetitions n) + times n
-        total = length-append (repetitions n) (replicate (times n) (first + n * step))
-            ∙ ap (λ k. length (repetitions n) + k) (length-replicate (times n) (first + n * step))
+        total = length-append (repetitions n) (replicate (times n) (first + n * step)) ∙ ap (λ k. length (repetitions n) + k) (length-replicate (times n) (first + n * step))
 
-        early : (k : ℕ) → suc k ≤ length (repetitions n) → get_or (repetitions n ++ replicate (times n) (first + n * step)) k 0 ≡ get_or
-            (repetitions n) k 0
+        early : (k : ℕ) → suc k ≤ length (repetitions n) → get_or (repetitions n ++ replicate (times n) (first + n * step)) k 0 ≡ get_or (repetitions n) k 0
         early k s = get_or-append (repetitions n) (replicate (times n) (first + n * step)) 0 k s
 
         late : (k : ℕ) → length (repetitions n) ≤ k → k < length (repetitions n) + times n
             → get_or (repetitions n ++ replicate (times n) (first + n * step)) k 0 ≡ first + n * step
-        late k s m = get_or-append_right (repetitions n) (replicate (times n) (first + n * step)) (length (repetitions n)) k 0
-            (λ i. length (repetitions n)) s
+        late k s m = get_or-append_right (repetitions n) (replicate (times n) (first + n * step)) (length (repetitions n)) k 0 (λ i. length (repetitions n)) s
             ∙ get_or-replicate (times n) (k - length (repetitions n)) (first + n * step) 0 (omega arith)
 
-        cases : (suc j ≤ length (repetitions n) → get_or (repetitions n) i 0 ≤ get_or (repetitions n) j 0) → Dec (suc i ≤ length (repetitions n))
-            → Dec (suc j ≤ length (repetitions n))
-            → get_or (repetitions n ++ replicate (times n) (first + n * step)) i 0 ≤ get_or
-            (repetitions n ++ replicate (times n) (first + n * step)) j 0
+        cases : (suc j ≤ length (repetitions n) → get_or (repetitions n) i 0 ≤ get_or (repetitions n) j 0) → Dec (suc i ≤ length (repetitions n)) → Dec (suc j ≤ length (repetitions n))
+            → get_or (repetitions n ++ replicate (times n) (first + n * step)) i 0 ≤ get_or (repetitions n ++ replicate (times n) (first + n * step)) j 0
         cases known (yes s) (yes t) =
             let before = known t in
             omega (arith, early i s, early j t, before)
@@ -168,11 +154,9 @@ module _ (first step : ℕ) (times : ℕ → ℕ) where
             let last = late j (omega (arith, t)) (omega (arith, total, l)) in
             omega (arith, first_late, last)
 
-pub repetitions-repeated : (first step : ℕ) (times : List ℕ) → 0 < step
-    → AreRepeated first step times (repetitions first step (slice_index times) (length times))
+pub repetitions-repeated : (first step : ℕ) (times : List ℕ) → 0 < step → AreRepeated first step times (repetitions first step (slice_index times) (length times))
 repetitions-repeated first step times positive = record {
-  each = repetitions-all first step (slice_index times) (λ e. (a : ℕ) × (a < length times) × (e ≡ first + a * step)) (length times)
-      (λ a l. (a, l, λ i. first + a * step));
+  each = repetitions-all first step (slice_index times) (λ e. (a : ℕ) × (a < length times) × (e ≡ first + a * step)) (length times) (λ a l. (a, l, λ i. first + a * step));
   increasing = IsNonDecreasingBy-from_default (λ x. x) (repetitions first step (slice_index times) (length times)) 0
       (repetitions-increasing first step (slice_index times) positive (length times));
   often = λ a l. times_in-number first step (slice_index times) positive (length times) a l;

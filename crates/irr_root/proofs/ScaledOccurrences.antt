@@ -6,7 +6,7 @@
 --   times_in-shifted         how often one of these stands in their list
 --   shifted-below            they are below N
 --   occurs-shifted           they are the exponents of the multiple
-use Rattle.std.proofs.Common.{◌≡◌, sym, ◌∙◌, ap, ap₂, refl, subst, ℕ, zero, suc, ◌<◌, ◌≤◌, ◌+◌, ◌-◌, ◌*◌, ◌/◌, ◌%◌, ◌⊎◌, inl, inr, List, [], ◌∷◌, get_or, map, All, arith}
+use Rattle.std.proofs.Common.{◌≡◌, sym, ◌∙◌, ap, ap₂, subst, ℕ, suc, ◌<◌, ◌≤◌, ◌+◌, ◌-◌, ◌*◌, ◌/◌, ◌%◌, ◌⊎◌, inl, inr, List, [], ◌∷◌, get_or, map, All, arith}
 use Rattle.std.specs.Prelude.{cond, nat_eq, Bool, true, false}
 use Rattle.std.specs.List.{AllByRecursion}
 use Rattle.std.proofs.Math.Nat as Nat
@@ -14,7 +14,6 @@ use native.Mathlib.Decide.{dec_le}
 use Rattle.std.proofs.lemmas.List.Elements.{All-from_get_or, All-map, recursion_from_All}
 use Rattle.std.proofs.lemmas.List.Sums.{sum_by-cons}
 use Rattle.std.proofs.lemmas.Bool.{eq-eqb, eqb-true, false≢true}
-use Rattle.irr_algebra.specs.Ring.{Ring}
 use Rattle.irr_algebra.specs.Field.{Field}
 use Rattle.irr_algebra.specs.Matrix.{Matrix, ◌·◌, scale}
 use Rattle.irr_algebra.proofs.Fields.{mul_cancel}
@@ -93,13 +92,15 @@ module _ (N y : ℕ) (ly : y < N) where
   abbrev pub shifted : List ℕ → List ℕ
   shifted es = map (λ e. (e + y) % N) es
 
-  times-shifted : (a b : ℕ) → a < N → b < N → IsShift N y b a → (es : List ℕ) → AllByRecursion (λ e. e < N) es → times_in a (shifted es) ≡ times_in b es
+  times-shifted : (a b : ℕ) → a < N → b < N → IsShift N y b a → (es : List ℕ) → AllByRecursion (λ e. e < N) es
+      → times_in a (shifted es) ≡ times_in b es
   times-shifted a b la lb is [] h = λ i. 0
   times-shifted a b la lb is (e ∷ es) h =
       sum_by-cons (λ g. counted (nat_eq g a)) ((e + y) % N) (shifted es)
       ∙ ap₂ (λ s t. s + t) (same-answer ((e + y) % N) a e b
       (λ p. shift_inj N y e b a h.0 lb (subst (IsShift N y e) p (shift-is N y e h.0 ly)) is)
-      (λ p. shift_one N y e ((e + y) % N) a (Nat.mod-lt (e + y) (positive e h.0)) la (shift-is N y e h.0 ly) (subst (λ k. IsShift N y k a) (sym p) is)))
+      (λ p. shift_one N y e ((e + y) % N) a (Nat.mod-lt (e + y) (positive e h.0)) la (shift-is N y e h.0 ly) (subst (λ k. IsShift N y k a)
+      (sym p) is)))
       (times-shifted a b la lb is es h.1)
       ∙ sym (sum_by-cons (λ g. counted (nat_eq g b)) e es)
     where
@@ -107,7 +108,8 @@ module _ (N y : ℕ) (ly : y < N) where
       positive k l = omega (arith, l)
 
   pub shifted-below : (es : List ℕ) → All (λ e. e < N) (shifted es)
-  shifted-below es = All-map (λ e. e < N) (λ e. (e + y) % N) es (All-from_get_or (λ e. (e + y) % N < N) es 0 (λ i l. Nat.mod-lt (get_or es i 0 + y) positive))
+  shifted-below es = All-map (λ e. e < N) (λ e. (e + y) % N) es (All-from_get_or (λ e. (e + y) % N < N) es 0 (λ i l. Nat.mod-lt
+      (get_or es i 0 + y) positive))
     where
       positive : 0 < N
       positive = omega (arith, ly)
@@ -123,7 +125,8 @@ module _ (N y : ℕ) (ly : y < N) where
 
     shift-power : (a b : ℕ) → IsShift N y b a → R.mul (power R z y) (power R z b) ≡ power R z a
     shift-power a b (inl e) = sym (power-add R z y b) ∙ ap (power R z) (Nat.add_comm y b ∙ e)
-    shift-power a b (inr e) = sym (power-add R z y b) ∙ ap (power R z) (Nat.add_comm y b ∙ e) ∙ power-add R z a N ∙ ap (R.mul (power R z a)) turn ∙ R.mul-one (power R z a)
+    shift-power a b (inr e) = sym (power-add R z y b) ∙ ap (power R z) (Nat.add_comm y b ∙ e) ∙ power-add R z a N ∙ ap (R.mul (power R z a)) turn
+        ∙ R.mul-one (power R z a)
 
     pub occurs-shifted : {d : ℕ} (v : Matrix R d d) (es : List ℕ) → All (λ e. e < N) es
         → ((e : ℕ) → e < N → Occurs v (power R z e) (times_in e es))

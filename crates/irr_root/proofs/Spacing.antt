@@ -29,5 +29,4 @@ pub turn-power : (N m q turn : ℕ) → 0 < m → m ∣ turn → N ≡ m * q →
 turn-power N m q turn positive divides split =
     let y = turn / m in
     let rest : turn / m % q + turn / m / q * q ≡ turn / m = Nat.mod-add-div' (turn / m) q in
-    sym (spaced-power N m q (turn / m % q) (turn / m / q) split) ∙ ap (λ k. m * k % N) rest
-    ∙ ap (λ k. k % N) (sym (quotient-product m turn positive divides))
+    sym (spaced-power N m q (turn / m % q) (turn / m / q) split) ∙ ap (λ k. m * k % N) rest ∙ ap (λ k. k % N) (sym (quotient-product m turn positive divides))

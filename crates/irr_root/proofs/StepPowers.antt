@@ -1,11 +1,11 @@
 -- The powers of a place outside the subgroup of a step.
 --   power-place, power-phase      the power of a place in a factor system and in the table
 --   top-number                    the member that the power of g n by the index is
-use Rattle.std.specs.Prelude.{ℕ, zero, suc, ◌≡◌, ◌<◌, ◌+◌, ◌*◌, ◌/◌, List}
+use Rattle.std.specs.Prelude.{ℕ, zero, suc, ◌≡◌, ◌<◌, ◌+◌, ◌/◌}
 use Rattle.std.specs.Int.{◌∣◌}
-use Rattle.std.proofs.Common.{sym, ◌∙◌, ap, ap₂, refl, subst}
+use Rattle.std.proofs.Common.{sym, ◌∙◌, ap, ap₂, refl}
 use Rattle.irr_algebra.specs.Ring.{Ring}
-use Rattle.irr_algebra.specs.Fin.{Fin, to_nat}
+use Rattle.irr_algebra.specs.Fin.{Fin}
 use Rattle.irr_algebra.proofs.Rings.{one-mul}
 use Rattle.irr_number.specs.Number.{numbers, root_power}
 use Rattle.irr_theory.specs.FactorSystem.{FactorSystem}
@@ -17,7 +17,8 @@ use Rattle.irr_space.specs.PhaseTable.{exponents_below, PhaseTable, phases_over,
 use Rattle.irr_rep.proofs.Cycles.{exponents_over}
 
 -- the number of a power of g is z to the sum of the exponents
-phase-sum : {R : Ring} (T : FactorSystem R) (order : ℕ) (z : R.Carrier) (x : Fin T.places → Fin T.places → ℕ) (g : Fin T.places) → HasExponents T order z x
+phase-sum : {R : Ring} (T : FactorSystem R) (order : ℕ) (z : R.Carrier) (x : Fin T.places → Fin T.places → ℕ) (g : Fin T.places)
+    → HasExponents T order z x
     → (n : ℕ) → (lifted_power (at_place T g) n).number ≡ power R z (exponent_sum T x g n)
 unfolding lifted_power lifted_product exponent_sum power
 phase-sum T order z x g h zero = refl

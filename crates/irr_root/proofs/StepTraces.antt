@@ -5,14 +5,12 @@
 --   step-exponents           the exponents of the eigenvalues there, from those of the family
 --   step-roots               the trace of an extension at g n is a sum of roots for these exponents
 use Rattle.std.specs.Prelude.{ℕ, zero, suc, ◌≡◌, ◌<◌, ◌+◌, ◌*◌, ◌/◌, ◌%◌, ◌≤◌, List, length, map, All}
-use Rattle.std.specs.Int.{◌∣◌}
-use Rattle.std.proofs.Common.{sym, ◌∙◌, ap, ap₂, refl, subst, arith}
+use Rattle.std.proofs.Common.{sym, ◌∙◌, ap, subst, arith}
 use Rattle.std.proofs.Math.Nat as Nat
 use Rattle.std.proofs.lemmas.List.{length-map}
-use Rattle.irr_algebra.specs.Ring.{Ring}
 use Rattle.irr_algebra.specs.Field.{Field}
-use Rattle.irr_algebra.specs.Fin.{Fin, to_nat}
-use Rattle.irr_algebra.specs.Matrix.{Matrix, scale}
+use Rattle.irr_algebra.specs.Fin.{Fin}
+use Rattle.irr_algebra.specs.Matrix.{scale}
 use Rattle.irr_number.specs.Number.{numbers, root_power}
 use Rattle.irr_number.proofs.NumberField.{number_field}
 use Rattle.irr_number.proofs.Primes.{cofactor}
@@ -68,7 +66,8 @@ module _ {h k : ℕ} {T : PhaseTable h} {K : PhaseTable k} {members : List ℕ} 
   module _ {d : ℕ} (D : Representation (inner_phases step) d) (n : Fin k) where
     -- the phase of the power
     power-number : (y : ℕ) → y ≡ exponents_below T.start T.product T.exponent (coset_place step n) p % T.order
-        → (lifted_power (at_place (outer_phases step) (coset_place step n)) step.quotient.index).number ≡ power (numbers M) (root_power M (M / T.order)) y
+        → (lifted_power (at_place (outer_phases step) (coset_place step n)) step.quotient.index).number
+        ≡ power (numbers M) (root_power M (M / T.order)) y
     power-number y is =
         power-phase T M step.positive step.divides (coset_place step n) step.quotient.index
         ∙ ap (λ q. power (numbers M) (root_power M (M / T.order)) (exponents_below T.start T.product T.exponent (coset_place step n) q)) step.index
@@ -77,24 +76,30 @@ module _ {h k : ℕ} {T : PhaseTable h} {K : PhaseTable k} {members : List ℕ} 
         ∙ ap (power (numbers M) (root_power M (M / T.order))) (sym is)
 
     at_top : (top : Fin k) (y : ℕ) → y ≡ exponents_below T.start T.product T.exponent (coset_place step n) p % T.order
-        → top_matrix (outer_phases step) D (coset_place step n) step.quotient.index top ≡ scale (numbers M) (power (numbers M) (root_power M (M / T.order)) y) (D.at top)
+        → top_matrix (outer_phases step) D (coset_place step n) step.quotient.index top
+        ≡ scale (numbers M) (power (numbers M) (root_power M (M / T.order)) y) (D.at top)
     unfolding lifted
     at_top top y is = ap (λ c. scale (numbers M) c (D.at top)) (power-number y is)
 
-    pub step-exponents : (top : Fin k) → step.part.place top ≡ (lifted_power (at_place (outer_phases step) (coset_place step n)) step.quotient.index).place
+    pub step-exponents : (top : Fin k) → step.part.place top
+        ≡ (lifted_power (at_place (outer_phases step) (coset_place step n)) step.quotient.index).place
         → (y : ℕ) → y ≡ exponents_below T.start T.product T.exponent (coset_place step n) p % T.order → (es : List ℕ)
         → AreEigenExponents K.order (root_power M (M / K.order)) (D.at top) es → ArePowerExponents step D n (map (λ e. (e + y) % T.order) es)
     step-exponents top place y is es own =
         let at = subst (λ N. AreEigenExponents N (root_power M (M / N)) (D.at top) es) step.same_order own in
-        let below : y < T.order = subst (λ x. x < T.order) (sym is) (Nat.mod-lt (exponents_below T.start T.product T.exponent (coset_place step n) p) T.order_positive) in
+        let below : y < T.order = subst (λ x. x < T.order) (sym is) (Nat.mod-lt (exponents_below T.start T.product T.exponent
+        (coset_place step n) p) T.order_positive) in
         record {
           top = top;
           place-top = place;
-          occurs = λ a l. subst (λ v. Occurs v (power (numbers M) (root_power M (M / T.order)) a) (times_in a (map (λ e. (e + y) % T.order) es))) (sym (at_top top y is))
-              (occurs-shifted T.order y below (number_field M step.positive) (root_power M (M / T.order)) primitive.power-one root-ne-zero (D.at top) es at.below at.occurs a l);
+          occurs = λ a l. subst (λ v. Occurs v (power (numbers M) (root_power M (M / T.order)) a) (times_in a (map (λ e. (e + y) % T.order) es)))
+              (sym (at_top top y is))
+              (occurs-shifted T.order y below (number_field M step.positive) (root_power M (M / T.order)) primitive.power-one root-ne-zero
+              (D.at top) es at.below at.occurs a l);
         }
 
-    pub step-roots : (s : Fin k → (numbers M).Carrier) → AreExtensionTraces step.quotient D s → (es : List ℕ) → All (λ e. e < T.order) es → ArePowerExponents step D n es
+    pub step-roots : (s : Fin k → (numbers M).Carrier) → AreExtensionTraces step.quotient D s → (es : List ℕ) → All (λ e. e < T.order) es
+        → ArePowerExponents step D n es
         → AddsUpRoots (numbers M) (root_power M (M / T.order)) p (T.order / p) es (s n)
     step-roots s extension es below exponents =
         let o : (m : ℕ) × IsPlaceOrder T.start T.product (coset_place step n) m = place_order T (coset_place step n) in
@@ -102,7 +107,8 @@ module _ {h k : ℕ} {T : PhaseTable h} {K : PhaseTable k} {members : List ℕ} 
         = cofactor o.0 (exponents_below T.start T.product T.exponent (coset_place step n) o.0) (T.exponents_divided (coset_place step n) o.0 o.1) in
         let q : (q : ℕ) × (T.order ≡ o.0 * q) = cofactor o.0 T.order (T.order_divides (coset_place step n) o.0 o.1) in
         subst (λ i. AddsUpRoots (numbers M) (root_power M (M / T.order)) i (T.order / i) es (s n)) step.index
-        (coset_sum (number_field M step.positive) step.quotient D s extension n exponents.top exponents.place-top T.order (root_power M (M / T.order)) T.exponent
+        (coset_sum (number_field M step.positive) step.quotient D s extension n exponents.top exponents.place-top T.order (root_power M
+        (M / T.order)) T.exponent
         o.0 q.0 y.0 (exponents_over T M step.positive step.divides) o.1.positive (above o.0 q.0 q.1) q.1
         (power-place T M step.positive step.divides (coset_place step n) o.0 ∙ o.1.power)
         (power-sum T M step.positive step.divides (coset_place step n) o.0 ∙ y.1) es below exponents.occurs).1

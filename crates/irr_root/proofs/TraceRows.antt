@@ -19,7 +19,9 @@ row-next n v xs r P i len before last a l =
     all = length-map xs v ∙ len
 
     cases : Dec (suc (to_nat a) ≤ i) → P a (get_or (map v xs ++ v r ∷ []) (to_nat a) (numbers n).zero)
-    cases (yes m) = subst (P a) (sym (get_or-append (map v xs) (v r ∷ []) (numbers n).zero (to_nat a) (subst (λ s. to_nat a < s) (sym all) m))) (before a m)
+    cases (yes m) = subst (P a) (sym (get_or-append (map v xs) (v r ∷ []) (numbers n).zero (to_nat a) (subst (λ s. to_nat a < s) (sym all) m)))
+        (before a m)
     cases (no m) =
         let is : to_nat a ≡ i = omega (arith, l, m) in
-        subst (P a) (sym (ap (λ s. get_or (map v xs ++ v r ∷ []) s (numbers n).zero) (is ∙ sym all) ∙ get_or-append_seam (map v xs) (v r) [] (numbers n).zero)) (last a is)
+        subst (P a) (sym (ap (λ s. get_or (map v xs ++ v r ∷ []) s (numbers n).zero) (is ∙ sym all)
+        ∙ get_or-append_seam (map v xs) (v r) [] (numbers n).zero)) (last a is)

@@ -19,8 +19,7 @@ pub read_at : (xs : List ℕ) (j x : ℕ) → x ≡ get_or xs j x → j < length
 read_at xs j x e l = e ∙ get_or_default_zero xs j x l
 
 module _ (n N : ℕ) (f : List (Number n)) (places exponents : List ℕ) (e j : ℕ) where
-  pub turned-value : (z u x : Number n) → z ≡ root_power n ((slice_index exponents j + (N - e) * j) * (n / N))
-      → u ≡ get_or f (slice_index places j) (numbers n).zero
+  pub turned-value : (z u x : Number n) → z ≡ root_power n ((slice_index exponents j + (N - e) * j) * (n / N)) → u ≡ get_or f (slice_index places j) (numbers n).zero
       → x ≡ (numbers n).mul z u → x ≡ power_trace n N f places exponents e j
   unfolding power_trace
   turned-value z u x p q r = r ∙ ap₂ (numbers n).mul p q
@@ -30,16 +29,14 @@ module _ (n N : ℕ) (f : List (Number n)) (places exponents : List ℕ) (e j : 
   turned-small h = IsRootSum-mul n (IsRootSum-root n ((slice_index exponents j + (N - e) * j) * (n / N))) h
 
 -- a number of a small row
-pub row-small : {S : Type 0} (order : S → ℕ) (value : (n : ℕ) → S → Number n) (n h : ℕ) (row : List S) → IsSmallRow order value n h row → (k : ℕ)
-    → k < h
+pub row-small : {S : Type 0} (order : S → ℕ) (value : (n : ℕ) → S → Number n) (n h : ℕ) (row : List S) → IsSmallRow order value n h row → (k : ℕ) → k < h
     → IsRootSum n 48 1 (get_or (map (value n) row) k (numbers n).zero)
 row-small order value n h row small k l =
     subst (λ i. IsRootSum n 48 1 (get_or (map (value n) row) i (numbers n).zero)) (to_nat-from_nat h k l) (small.small (from_nat h k l))
 
 pub few_sums : (n k m : ℕ) → n ≤ 12000 → m ≤ 12000 → k < m → k * 48 * n * 1 + 48 * n * 1 < 2 ^ 110
 few_sums n k m p q l =
-    let a : k * 48 * n * 1 ≤ 12000 * 48 * 12000 * 1 = Nat.mul-le-mul_right 1
-    (Nat.mul-le-mul (Nat.mul-le-mul_right 48 (let s : k ≤ 12000 = omega arith in s)) p) in
+    let a : k * 48 * n * 1 ≤ 12000 * 48 * 12000 * 1 = Nat.mul-le-mul_right 1 (Nat.mul-le-mul (Nat.mul-le-mul_right 48 (let s : k ≤ 12000 = omega arith in s)) p) in
     omega arith
 
 module _ {S : Type 0} (order : S → ℕ) (value : (n : ℕ) → S → Number n) (n h : ℕ) (row : List S) (small : IsSmallRow order value n h row) where

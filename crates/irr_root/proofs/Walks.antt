@@ -7,8 +7,7 @@
 --   walked-exponent                              the exponent of the next one is small
 --   powers-length, powers-place-lt, powers-turned-le    sizes of all powers
 --   walked-done                                  all powers, where the next one is at the unit
-use Rattle.std.proofs.Common.{◌≡◌, sym, ◌∙◌, ap, refl, subst, ℕ, zero, suc, ◌<◌, ◌≤◌, ◌+◌, ◌-◌, ◌*◌, List, [], ◌∷◌, ◌++◌, length, get_or, slice_index}
-use Rattle.std.proofs.Common.{add-one, arith}
+use Rattle.std.proofs.Common.{◌≡◌, sym, ◌∙◌, ap, refl, subst, ℕ, zero, suc, ◌<◌, ◌≤◌, ◌+◌, ◌-◌, ◌*◌, List, [], ◌∷◌, ◌++◌, length, get_or, slice_index, add-one, arith}
 use Rattle.std.specs.Int.{◌∣◌}
 use native.Mathlib.Decide.{dec_le}
 use native.Mathlib.Nat as Nat
@@ -102,15 +101,13 @@ module _ {h : ℕ} (T : PhaseTable h) (g : Fin h) where
           ap (λ k. get_or (xs ++ x ∷ []) k 0) is ∙ get_or-append_seam xs x [] 0 ∙ here ∙ ap f (sym is)
 
   pub walked-step : {ps es : List ℕ} {place exponent : ℕ} → Walked ps es place exponent → (place ≡ 0 → ⊥)
-      → Walked (ps ++ place ∷ []) (es ++ exponent ∷ []) (to_nat (T.product g (walk_place (length ps))))
-      (exponent + T.exponent g (walk_place (length ps)))
+      → Walked (ps ++ place ∷ []) (es ++ exponent ∷ []) (to_nat (T.product g (walk_place (length ps)))) (exponent + T.exponent g (walk_place (length ps)))
   unfolding place_power exponents_below
   walked-step {ps} {es} {place} {exponent} w away = record {
     positive = omega (arith, longer);
     same_length = length-append es (exponent ∷ []) ∙ ap (λ k. k + 1) w.same_length ∙ sym longer;
     place-at = read_last ps place (λ j. to_nat (walk_place j)) w.place-at w.next_place;
-    exponent-at = λ j l. read_last es exponent walk_exponent (λ k m. w.exponent-at k (subst (λ n. k < n) w.same_length m))
-        (w.next_exponent ∙ ap walk_exponent (sym w.same_length)) j
+    exponent-at = λ j l. read_last es exponent walk_exponent (λ k m. w.exponent-at k (subst (λ n. k < n) w.same_length m)) (w.next_exponent ∙ ap walk_exponent (sym w.same_length)) j
         (subst (λ n. j < n) (longer ∙ ap (λ k. k + 1) (sym w.same_length) ∙ sym (length-append es (exponent ∷ []))) l);
     next_place = ap (λ k. to_nat (walk_place k)) (sym (longer ∙ add-one (length ps)));
     next_exponent = ap (λ e. e + T.exponent g (walk_place (length ps))) w.next_exponent ∙ ap walk_exponent (sym (longer ∙ add-one (length ps)));

@@ -20,7 +20,8 @@ use Rattle.irr_clifford.specs.Roots.{number_power}
 pub whole-small : (n k : ℕ) → IsRootSum n k 1 (whole (numbers n) k)
 whole-small n zero = subst (IsRootSum n 0 1) (sym (whole-zero (numbers n))) (IsRootSum-zero n 1 (omega arith))
 whole-small n (suc k) = subst (IsRootSum n (suc k) 1) (sym (whole-suc (numbers n) k))
-    (let l : 1 + k ≡ suc k = omega arith in subst (λ s. IsRootSum n s 1 ((numbers n).add (numbers n).one (whole (numbers n) k))) l (IsRootSum-add_same n (IsRootSum-one n) (whole-small n k)))
+    (let l : 1 + k ≡ suc k = omega arith in subst (λ s. IsRootSum n s 1 ((numbers n).add (numbers n).one (whole (numbers n) k))) l
+    (IsRootSum-add_same n (IsRootSum-one n) (whole-small n k)))
 
 module _ (m : ℕ) (positive : 0 < m) (x : Number m) (is : x ≡ (numbers m).one) where
   one : IsRootSum m 1 1 x

@@ -23,7 +23,8 @@ use Rattle.irr_root.specs.CyclicStep.{coset_place, HasTraces, inner_phases, IsCy
 use Rattle.irr_root.specs.ProductSum.{IsProductSum, MeetsProduct}
 
 -- the position of a place is its number where it is a member
-pub record IsChoice {S : Type 0} {h k : ℕ} (order : S → ℕ) (value : (n : ℕ) → S → Number n) (M : ℕ) (T : PhaseTable h) (K : PhaseTable k) (members : List ℕ)
+pub record IsChoice {S : Type 0} {h k : ℕ} (order : S → ℕ) (value : (n : ℕ) → S
+    → Number n) (M : ℕ) (T : PhaseTable h) (K : PhaseTable k) (members : List ℕ)
     (p g d : ℕ) (positions : List ℕ) (row : List S) : Type 0 where
   pub step : IsCyclicStep T K members p g M
   pub family : Representation (inner_phases step) d
@@ -36,7 +37,8 @@ pub record IsChoice {S : Type 0} {h k : ℕ} (order : S → ℕ) (value : (n : �
   pub members_few : k ≤ 48
 
 -- the size and the matrices
-pub record HasMatrices {S : Type 0} {G : Ghosts S} {h k : ℕ} {T : PhaseTable h} {K : PhaseTable k} {members : List ℕ} {p g M : ℕ} (step : IsCyclicStep T K members p g M)
+pub record HasMatrices {S : Type 0} {G : Ghosts S} {h k : ℕ} {T : PhaseTable h} {K : PhaseTable k} {members : List ℕ} {p g M : ℕ}
+    (step : IsCyclicStep T K members p g M)
     {d : ℕ} (D : Representation (inner_phases step) d) (f : Family S G) : Type 0 where
   pub size : f.dim ≡ d
   pub shape : HasShape M k d f.mats.items
@@ -46,7 +48,8 @@ module _ {S : Type 0} {h k : ℕ} {order : S → ℕ} {value : (n : ℕ) → S �
     {p g d : ℕ} {positions : List ℕ} {row : List S} (c : IsChoice order value M T K members p g d positions row) where
   -- the sum of the character
   abbrev pub IsSumAt : (n m : Fin k) → Number M → Type 0
-  IsSumAt n m x = IsProductSum (step_subgroup c.step) c.step.quotient.index (λ i. trace (c.family.at i)) c.position (coset_place c.step n) (coset_place c.step m) x
+  IsSumAt n m x = IsProductSum (step_subgroup c.step) c.step.quotient.index (λ i. trace (c.family.at i)) c.position (coset_place c.step n)
+      (coset_place c.step m) x
 
   -- d^(p-1) times the sum
   pub record IsTarget (n m : Fin k) (r : Number M) : Type 0 where

@@ -62,7 +62,8 @@ module _ {h k : ℕ} {T : PhaseTable h} {K : PhaseTable k} {members : List ℕ} 
     pub fixed : Equivalent (conjugate step.quotient D) D.at
 
   -- the row has the traces of D
-  pub record HasTraces {S : Type 0} (order : S → ℕ) (value : (n : ℕ) → S → Number n) {d : ℕ} (D : Representation inner_phases d) (row : List S) : Type 0 where
+  pub record HasTraces {S : Type 0} (order : S → ℕ) (value : (n : ℕ) → S
+      → Number n) {d : ℕ} (D : Representation inner_phases d) (row : List S) : Type 0 where
     pub few : d ≤ 48
     pub is_row : IsRowOf order value M (λ (n : Fin k). trace (D.at n)) row
 
@@ -75,4 +76,5 @@ module _ {h k : ℕ} {T : PhaseTable h} {K : PhaseTable k} {members : List ℕ} 
     pub top : Fin k
     pub place-top : step.part.place top ≡ (lifted_power (at_place outer_phases (coset_place n)) step.quotient.index).place
     pub occurs : (a : ℕ) → a < T.order
-        → Occurs (top_matrix outer_phases D (coset_place n) step.quotient.index top) (power (numbers M) (root_power M (M / T.order)) a) (times_in a es)
+        → Occurs (top_matrix outer_phases D (coset_place n) step.quotient.index top) (power (numbers M) (root_power M (M / T.order)) a)
+        (times_in a es)

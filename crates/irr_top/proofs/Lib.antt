@@ -6,9 +6,10 @@ pub mod InputBytes
 pub mod Reading
 pub mod Numerators
 pub mod Groups
-pub mod Picking
-pub mod CoGroups
-pub mod Reports
-pub mod Counting
 pub mod Outcomes
 pub mod SameGenerators
+pub mod Along
+pub mod Members
+pub mod SmallTexts
+pub mod Reports
+pub mod Numbers

@@ -1,7 +1,9 @@
 -- Words and bytes ask for one status.
 --   order_unique       a wave vector has one order
---   asked_status       what is asked for is one status
-use Rattle.std.proofs.Common.{◌≡◌, ◌≢◌, refl, sym, ◌∙◌, ap, ap₂, subst, ℕ, ◌<◌, ◌≤◌, ◌*◌, List, length, arith}
+--   Agree s t          s and t are one status, or neither tells of a limit or a fault
+--   asked_status       what is asked for agrees
+--   asked_one          and is one status, where tables have steps
+use Rattle.std.proofs.Common.{◌≡◌, ◌≢◌, refl, sym, ◌∙◌, ap, ap₂, subst, ℕ, ◌<◌, ◌≤◌, ◌*◌, ◌⊎◌, inl, inr, List, length, arith}
 use Rattle.irr_space.specs.Operation.{Operation, WaveVector}
 use Rattle.irr_space.specs.SpaceGroup.{Generated, IsExponent}
 use Rattle.irr_space.specs.Reciprocal.{IsOrder, IsPeriod}
@@ -13,18 +15,16 @@ use Rattle.irr_close.specs.declared.CloseError.{CloseError}
 use Rattle.irr_close.specs.declared.CloseError.TheVariants.{Rotations as many_rotations, Denominator as large_denominator, Centrings as many_centrings, Memory as no_memory}
 use Rattle.irr_top.specs.Command.{IsCommand, IsFaulty}
 use Rattle.irr_top.specs.Generators.{AreGenerators, SpellsGenerators, IsFaultyLine}
-use Rattle.irr_top.specs.CoGroup.{HasCoGroup}
 use Rattle.irr_top.specs.GroupOf.{group_of}
-use Rattle.irr_top.specs.Asked.{Asks, IsAsked, input_limit, order_limit}
-use Rattle.irr_top.specs.Asked.Asks.{usage, too_long, faulty_line, rotations, denominator, centrings, order_too_large, co_group, report}
+use Rattle.irr_top.specs.Asked.{Asks, HaveSteps, IsAsked, IsPastLimits, input_limit, order_limit}
+use Rattle.irr_top.specs.Asked.Asks.{usage, too_long, faulty_line, rotations, denominator, centrings, order_too_large, report, unchained}
 use Rattle.irr_top.specs.declared.status.Status.{Status}
 use Rattle.irr_top.specs.declared.status.Status.TheVariants.{Done, Usage, BadInput, TooLarge, Memory}
 use Rattle.irr_top.specs.declared.status.Reason.TheVariants.{Shape}
-use Rattle.irr_top.specs.declared.status.Kind.TheVariants.{Bytes, Rotations, Denominator, Centrings, Order, CoGroup}
+use Rattle.irr_top.specs.declared.status.Kind.TheVariants.{Bytes, Rotations, Denominator, Centrings, Order}
 use Rattle.irr_top.proofs.WordPlaces.{small_unique, faulty_unique}
 use Rattle.irr_top.proofs.Reading.{spelled_or_faulty, faulty_line_unique}
 use Rattle.irr_top.proofs.SameGenerators.{AreSame, same_generators, operations_same, refusal_along, accepted_along}
-use Rattle.irr_top.proofs.CoGroups.{co_group_unique}
 
 module _ (G : Operation → Type 0) where
   exponent_unique : (d e : ℕ) → IsExponent G d → IsExponent G e → d ≡ e
@@ -36,6 +36,10 @@ module _ (G : Operation → Type 0) where
   pub order_unique : (k : WaveVector) (m n : ℕ) → IsOrder G k m → IsOrder G k n → m ≡ n
   order_unique k m n p q = p.is_product ∙ ap₂ (λ x y. x * y) (exponent_unique p.exponent q.exponent p.is_exponent q.is_exponent)
       (period_unique k p.period q.period p.is_period q.is_period) ∙ sym q.is_product
+
+-- one status, or two that tell of no limit and no fault
+abbrev pub Agree : Status → Status → Type 0
+Agree s t = (s ≡ t) ⊎ (IsPastLimits s × IsPastLimits t)
 
 -- before the group is made
 data Early (words : List (List ℕ)) (bytes : List ℕ) : Status → Type 0 where
@@ -53,9 +57,7 @@ refused_status no_memory = Memory
 -- at a wave vector of a group
 data InGroup (k : WaveVector) (gens : List Op) : Status → Type 0 where
   order_is_large : {n : ℕ} → IsOrder (group_of gens) k n → order_limit < n → InGroup k gens (TooLarge (Order n))
-  co_group_is_large : {n h : ℕ} → IsOrder (group_of gens) k n → n ≤ order_limit → HasCoGroup (group_of gens) k h → 1 < h → InGroup k gens
-      (TooLarge (CoGroup h))
-  is_done : {n : ℕ} → IsOrder (group_of gens) k n → n ≤ order_limit → HasCoGroup (group_of gens) k 1 → InGroup k gens Done
+  is_within : {n : ℕ} {s : Status} → IsOrder (group_of gens) k n → n ≤ order_limit → IsPastLimits s → InGroup k gens s
 
 data Late (k : WaveVector) (gens : List Op) : Status → Type 0 where
   refused : (e : CloseError) → e ≢ no_memory → IsRefusal gens e → {s : Status} → s ≡ refused_status e → Late k gens s
@@ -75,8 +77,8 @@ module _ (words : List (List ℕ)) (bytes : List ℕ) where
   stage (denominator k gens a r) = late k gens a (refused large_denominator (λ e. cc) r refl)
   stage (centrings k gens a r) = late k gens a (refused many_centrings (λ e. cc) r refl)
   stage (order_too_large k gens a i o l) = late k gens a (accepted i (order_is_large o l))
-  stage (co_group k gens a i o l h m) = late k gens a (accepted i (co_group_is_large o l h m))
-  stage (report k gens r a i o l h is) = late k gens a (accepted i (is_done o l h))
+  stage (report k gens r a i o l is) = late k gens a (accepted i (is_within o l tt))
+  stage (unchained k gens T a i o l at u) = late k gens a (accepted i (is_within o l tt))
 
   too_many : (n m : ℕ) → n ≤ m → m < n → ⊥
   too_many n m l h = omega arith
@@ -123,23 +125,15 @@ module _ (k : WaveVector) (gens : List Op) where
   large_or_not m n o l p h = let e : m ≡ n = order_unique (group_of gens) k m n o p in let f : order_limit < n = subst
       (λ x. order_limit < x) e l in omega arith
 
-  one_or_more : (h : ℕ) → HasCoGroup (group_of gens) k h → 1 < h → HasCoGroup (group_of gens) k 1 → ⊥
-  one_or_more h p l q = let e : h ≡ 1 = co_group_unique (group_of gens) k h 1 p q in omega arith
+  in_group_unique : {s t : Status} → InGroup k gens s → InGroup k gens t → Agree s t
+  in_group_unique (order_is_large {n = m} o l) (order_is_large {n = n} p h) = inl (ap (λ x. TooLarge (Order x))
+      (order_unique (group_of gens) k m n o p))
+  in_group_unique (order_is_large {n = m} o l) (is_within {n = n} p h w) = absurd (large_or_not m n o l p h)
+  in_group_unique (is_within {n = n} p h w) (order_is_large {n = m} o l) = absurd (large_or_not m n o l p h)
+  in_group_unique (is_within p l w) (is_within q m v) = inr (w, v)
 
-  in_group_unique : {s t : Status} → InGroup k gens s → InGroup k gens t → s ≡ t
-  in_group_unique (order_is_large {n = m} o l) (order_is_large {n = n} p h) = ap (λ x. TooLarge (Order x)) (order_unique (group_of gens) k m n o p)
-  in_group_unique (order_is_large {n = m} o l) (co_group_is_large {n = n} p h c i) = absurd (large_or_not m n o l p h)
-  in_group_unique (order_is_large {n = m} o l) (is_done {n = n} p h c) = absurd (large_or_not m n o l p h)
-  in_group_unique (co_group_is_large {n = n} p h c i) (order_is_large {n = m} o l) = absurd (large_or_not m n o l p h)
-  in_group_unique (co_group_is_large {h = g} p l c i) (co_group_is_large {h = h} q m d j) = ap (λ x. TooLarge (CoGroup x))
-      (co_group_unique (group_of gens) k g h c d)
-  in_group_unique (co_group_is_large {h = h} p l c i) (is_done q m d) = absurd (one_or_more h c i d)
-  in_group_unique (is_done {n = n} p h c) (order_is_large {n = m} o l) = absurd (large_or_not m n o l p h)
-  in_group_unique (is_done p l c) (co_group_is_large {h = h} q m d j) = absurd (one_or_more h d j c)
-  in_group_unique (is_done p l c) (is_done q m d) = refl
-
-  late_unique : {s t : Status} → Late k gens s → Late k gens t → s ≡ t
-  late_unique (refused d m p e) (refused f n q g) = e ∙ ap refused_status (refusal_unique gens d f m n p q) ∙ sym g
+  late_unique : {s t : Status} → Late k gens s → Late k gens t → Agree s t
+  late_unique (refused d m p e) (refused f n q g) = inl (e ∙ ap refused_status (refusal_unique gens d f m n p q) ∙ sym g)
   late_unique (refused d m p e) (accepted a i) = absurd (refused_or_accepted gens d m p a)
   late_unique (accepted a i) (refused d m p e) = absurd (refused_or_accepted gens d m p a)
   late_unique (accepted a i) (accepted b j) = in_group_unique i j
@@ -149,12 +143,8 @@ in_group_along : (k l : WaveVector) (gens hens : List Op) {s : Status} → k ≡
     → InGroup l hens s
 in_group_along k l gens hens e f (order_is_large {n = n} o h) = order_is_large
     (subst (λ x. IsOrder (group_of hens) x n) e (subst (λ gs. IsOrder (Generated gs) k n) f o)) h
-in_group_along k l gens hens e f (co_group_is_large {n = n} {h = h} o m c i) = co_group_is_large
-    (subst (λ x. IsOrder (group_of hens) x n) e (subst (λ gs. IsOrder (Generated gs) k n) f o)) m
-    (subst (λ x. HasCoGroup (group_of hens) x h) e (subst (λ gs. HasCoGroup (Generated gs) k h) f c)) i
-in_group_along k l gens hens e f (is_done {n = n} o m c) = is_done
-    (subst (λ x. IsOrder (group_of hens) x n) e (subst (λ gs. IsOrder (Generated gs) k n) f o)) m
-    (subst (λ x. HasCoGroup (group_of hens) x 1) e (subst (λ gs. HasCoGroup (Generated gs) k 1) f c))
+in_group_along k l gens hens e f (is_within {n = n} o m w) = is_within
+    (subst (λ x. IsOrder (group_of hens) x n) e (subst (λ gs. IsOrder (Generated gs) k n) f o)) m w
 
 late_along : (k l : WaveVector) (gens hens : List Op) {s : Status} → k ≡ l → AreSame gens hens → Late k gens s → Late l hens s
 late_along k l gens hens e same (refused d m p f) = refused d m (refusal_along d same p) f
@@ -165,12 +155,29 @@ same_spelled bytes gens hens s t = same_generators s.are_generators
     (subst (λ l. AreGenerators l hens) (lines_unique t.are_lines s.are_lines) t.are_generators)
 
 module _ (words : List (List ℕ)) (bytes : List ℕ) where
-  stage_unique : {s t : Status} → Stage words bytes s → Stage words bytes t → s ≡ t
-  stage_unique (early x) (early y) = early_unique words bytes x y
+  stage_unique : {s t : Status} → Stage words bytes s → Stage words bytes t → Agree s t
+  stage_unique (early x) (early y) = inl (early_unique words bytes x y)
   stage_unique (early x) (late k gens a l) = absurd (early_or_late words bytes k gens x a)
   stage_unique (late k gens a l) (early x) = absurd (early_or_late words bytes k gens x a)
   stage_unique (late k gens a l) (late j hens b m) = late_unique j hens
       (late_along k j gens hens (small_unique words k j a.is_small b.is_small) (same_spelled bytes gens hens a.spells b.spells) l) m
 
-  pub asked_status : {s t : Status} {x y : List ℕ} → Asks words bytes s x → Asks words bytes t y → s ≡ t
+  pub asked_status : {s t : Status} {x y : List ℕ} → Asks words bytes s x → Asks words bytes t y → Agree s t
   asked_status p q = stage_unique (stage words bytes p) (stage words bytes q)
+
+  -- where tables have steps, no subgroup is without one
+  done : {s : Status} {x : List ℕ} → HaveSteps words bytes → Asks words bytes s x → IsPastLimits s → s ≡ Done
+  done steps (usage p) w = absurd w
+  done steps (too_long c l) w = absurd w
+  done steps (faulty_line c l e) w = absurd w
+  done steps (rotations k gens a r) w = absurd w
+  done steps (denominator k gens a r) w = absurd w
+  done steps (centrings k gens a r) w = absurd w
+  done steps (order_too_large k gens a i o l) w = absurd w
+  done steps (report k gens r a i o l is) w = refl
+  done steps (unchained {h = h} {members = members} k gens T a i o l at u) w =
+      elim (steps k gens a h T at members.items u.subgroup u.more_than_one)
+      [ inl two ↦ absurd (u.none_of_two two) | inr three ↦ absurd (u.none_of_three three) ]
+
+  pub asked_one : {s t : Status} {x y : List ℕ} → HaveSteps words bytes → Asks words bytes s x → Asks words bytes t y → s ≡ t
+  asked_one steps p q = elim (asked_status p q) [ inl e ↦ e | inr w ↦ done steps p w.0 ∙ sym (done steps q w.1) ]

@@ -2,11 +2,12 @@ pub mod StatusCode
 pub mod Command
 pub mod Generators
 pub mod InputFaults
-pub mod CoGroup
 pub mod GroupOf
-pub mod OneOperationText
+pub mod LittleTable
 pub mod RefusalText
 pub mod Asked
+pub mod Members
+pub mod SmallText
 pub mod Answered
 pub mod Ended
 pub mod Outcome

@@ -1,8 +1,8 @@
 -- Exit statuses.
---   code_of s     the exit status of a program that ends with the status s: 1 is kept for a verdict of no, 8 for a missing chain
+--   code_of s     the exit status of a program that ends with the status s: 1 is kept for a verdict of no
 use Rattle.std.specs.Prelude.{ℕ}
 use Rattle.irr_top.specs.declared.status.Status.{Status}
-use Rattle.irr_top.specs.declared.status.Status.TheVariants.{Done, Usage, BadInput, TooLarge, ReadFault, WriteFault, Memory}
+use Rattle.irr_top.specs.declared.status.Status.TheVariants.{Done, Usage, BadInput, TooLarge, ReadFault, WriteFault, Memory, Unchained}
 
 abbrev pub code_of : Status → ℕ
 code_of Done = 0
@@ -12,3 +12,4 @@ code_of (TooLarge kind) = 4
 code_of ReadFault = 5
 code_of WriteFault = 6
 code_of Memory = 7
+code_of (Unchained members) = 8

@@ -1,8 +1,7 @@
 // The command `small`.
-ghost use Rattle.std.specs.Prelude.{◌≡◌, ◌+◌, ◌≤◌, ℕ, List, IfOk, length};
+ghost use Rattle.std.specs.Prelude.{◌≡◌, ◌+◌, ◌≤◌, ℕ, List, length};
 ghost use Rattle.std.specs.List.{All};
 ghost use Rattle.irr_text.specs.WaveText.{IsWithinLimits};
-ghost use Rattle.irr_text.specs.ReportText.{ReportContent, report_text};
 ghost use Rattle.irr_seitz.specs.OperationMeaning.{operation};
 ghost use Rattle.irr_seitz.specs.declared.op.Op.{Op};
 ghost use Rattle.irr_triplet.specs.Readable.{IsReadable};
@@ -10,24 +9,21 @@ ghost use Rattle.irr_kvec.specs.WaveMeaning.{wave_vector};
 ghost use Rattle.irr_close.specs.StandsFor.{IsAccepted};
 ghost use Rattle.irr_top.specs.Command.{IsSmall, wave_limit};
 ghost use Rattle.irr_top.specs.GroupOf.{IsGroupOf};
-ghost use Rattle.irr_top.specs.Asked.{Asks, IsAsked, input_limit};
+ghost use Rattle.irr_top.specs.Asked.{IsAsked, input_limit};
 ghost use Rattle.irr_top.specs.Ended.{Ended, Replies};
 ghost use Rattle.irr_top.specs.RefusalText.{refusal_text};
 ghost use Rattle.irr_top.specs.Outcome.{Outcome};
-ghost use Rattle.irr_top.specs.OneOperationText.{one_operation_text};
-ghost use Rattle.irr_top.specs.declared.status.Status.TheVariants.{Done, BadInput};
+ghost use Rattle.irr_top.specs.declared.status.Status.TheVariants.{BadInput};
 ghost use Rattle.irr_top.specs.declared.status.Reason.TheVariants.{Shape};
 ghost use Rattle.irr_io.specs.Count.{CountsAtMost};
 
 use crate::input::{InputFault, generators};
 use crate::refusal::{finish, refuse};
-use crate::small_group::{co_group, order, reduced_wave};
+use crate::small_text::{NoReport, small_text};
 use crate::status::{Kind, Reason, Status};
 use irr_close::{CloseError, Group, close};
-use irr_cyc::ORDER_LIMIT;
 use irr_io::{InFault, Sink, Source, read_all};
 use irr_kvec::Wave;
-use irr_memory::Memory;
 use irr_seitz::{Op, Phase};
 use std::alloc::Global;
 
@@ -90,15 +86,14 @@ fn answer_group<O: Sink>(alloc: Global, wave: &Wave, group: &Group, sink: &mut O
     ensures { (words : List (List ℕ)) (bytes : List ℕ) (gens : List Op) → IsAsked words bytes (wave_vector wave.now) gens → IsAccepted gens → IsGroupOf group.now gens
         → Replies words bytes (O.faults sink.old) (O.faults sink.new) (O.held sink.old) (O.held sink.new) (O.writes sink.old) (O.writes sink.new) result }
 {
-    let order = order(group, wave);
-    if order > u64::from(ORDER_LIMIT) {
-        return refuse(alloc, Status::TooLarge(Kind::Order(order)), sink);
+    match small_text(alloc, group, wave) {
+        Ok(text) => finish(Status::Done, &text, sink),
+        Err(NoReport::OrderTooLarge(order)) => {
+            refuse(alloc, Status::TooLarge(Kind::Order(order)), sink)
+        }
+        Err(NoReport::Unchained(members)) => refuse(alloc, Status::Unchained(members), sink),
+        Err(NoReport::Memory) => Status::Memory,
     }
-    let count = co_group(group, wave);
-    if count > 1 {
-        return refuse(alloc, Status::TooLarge(Kind::CoGroup(count)), sink);
-    }
-    report(alloc, &reduced_wave(group, wave), order, sink)
 }
 
 // Refuses a faulty line of the input.
@@ -107,25 +102,4 @@ fn refuse_line<O: Sink>(alloc: Global, line: u64, sink: &mut O) -> Status
 {
     let reason = Reason::Shape(0);
     refuse(alloc, Status::BadInput { line, reason }, sink)
-}
-
-// Writes the report of one operation and one representation, at a reduced wave vector of this order.
-fn report<O: Sink>(alloc: Global, wave: &Wave, order: u64, sink: &mut O) -> Status
-    ensures { (words : List (List ℕ)) (bytes : List ℕ) (r : ReportContent) → Asks words bytes Done (report_text r) → report_text r ≡ one_operation_text (wave_vector wave.now) order
-        → Replies words bytes (O.faults sink.old) (O.faults sink.new) (O.held sink.old) (O.held sink.new) (O.writes sink.old) (O.writes sink.new) result }
-{
-    match text_of_one_operation(alloc, wave, order) {
-        Ok(text) => finish(Status::Done, &text, sink),
-        Err(Memory) => Status::Memory,
-    }
-}
-
-// The text of the report of one operation and one representation.
-fn text_of_one_operation(alloc: Global, wave: &Wave, order: u64) -> Result<Vec<u8>, Memory>
-    ensures { IfOk result (λ text. text.items ≡ one_operation_text (wave_vector wave.now) order) }
-{
-    let text = format!(in alloc;
-        "report 1\nwave {wave}\norder {order}\nops 1\nop 1 x,y,z\nreps 1\nrep S1 dim 1\nchar 1\nmat 1 1\nend\n"
-    )?;
-    Ok(text.into_bytes())
 }

@@ -1,6 +1,7 @@
 // The lines that tell of a refusal.
-ghost use Rattle.std.specs.Prelude.{◌≡◌, IfOk, string_bytes};
-ghost use Rattle.irr_top.specs.RefusalText.{HasLine, refusal_text};
+ghost use Rattle.std.specs.Prelude.{suc, ◌≡◌, ◌++◌, ◌∷◌, [], IfOk, OnOk, codes, string_bytes};
+ghost use Rattle.std.specs.Fmt.{decimal};
+ghost use Rattle.irr_top.specs.RefusalText.{HasLine, numbers_text, refusal_text};
 ghost use Rattle.irr_top.specs.Ended.{Ended};
 
 use crate::status::{Kind, Reason, Status};
@@ -24,6 +25,7 @@ fn line(alloc: Global, status: &Status) -> Result<String, AllocError>
         Status::Usage(n) => format!(in alloc; "usage {n}\n"),
         Status::BadInput { line, reason } => bad_line(alloc, *line, *reason),
         Status::TooLarge(kind) => large_line(alloc, *kind),
+        Status::Unchained(members) => unchained_line(alloc, members),
         Status::Done | Status::ReadFault | Status::WriteFault | Status::Memory => {
             String::from_str(alloc, "")
         }
@@ -40,7 +42,6 @@ fn large_line(alloc: Global, kind: Kind) -> Result<String, AllocError>
         Kind::Denominator => format!(in alloc; "too large: denominator\n"),
         Kind::Centrings => format!(in alloc; "too large: centrings\n"),
         Kind::Order(n) => format!(in alloc; "too large: order {n}\n"),
-        Kind::CoGroup(h) => format!(in alloc; "too large: co-group {h}\n"),
     }
 }
 
@@ -54,6 +55,28 @@ fn bad_line(alloc: Global, line: u64, reason: Reason) -> Result<String, AllocErr
             format!(in alloc; "bad input line {line}: shape {column}\n")
         }
     }
+}
+
+// The line of a subgroup that has no normal subgroup of index 2 or 3. Its members count from 1 in print.
+fn unchained_line(alloc: Global, members: &[u32]) -> Result<String, AllocError>
+    ensures { IfOk result (λ text. string_bytes text ≡ codes "unchained:" ++ numbers_text members.now ++ 10 ∷ []) }
+{
+    let mut text = String::from_str(alloc, "unchained:")?;
+    for member in members {
+        push_number(alloc, &mut text, *member)?;
+    }
+    text.push_str("\n")?;
+    Ok(text)
+}
+
+// Appends a blank and a number that counts from 0, as it is printed: from 1.
+fn push_number(alloc: Global, text: &mut String, number: u32) -> Result<(), AllocError>
+    ensures { OnOk result (string_bytes text.new ≡ string_bytes text.old ++ 32 ∷ decimal (suc number)) }
+{
+    let printed = u64::from(number) + 1;
+    let word = format!(in alloc; " {printed}")?;
+    text.push_str(word.as_str())?;
+    Ok(())
 }
 
 /// Writes a text, and ends with its status.

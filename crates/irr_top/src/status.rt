@@ -14,8 +14,6 @@ pub enum Kind {
     Centrings,
     /// The order of the numbers, which is above 12,000.
     Order(u64),
-    /// The number of elements of the little co-group, which is above 1.
-    CoGroup(u32),
 }
 
 /// Why a line is faulty.
@@ -26,7 +24,7 @@ pub enum Reason {
 }
 
 /// How a run ends.
-#[derive(Clone, Copy, Debug, PartialEq, Eq)]
+#[derive(Debug, PartialEq, Eq, Drop)]
 pub enum Status {
     /// The text that was asked for is written.
     Done,
@@ -42,6 +40,9 @@ pub enum Status {
     WriteFault,
     /// Memory was wanting. Nothing is written then.
     Memory,
+    /// These operations of the little group, counted from 0, are a subgroup modulo translations of more than one
+    /// element that has no normal subgroup of index 2 or 3.
+    Unchained(Vec<u32>),
 }
 
 impl Status {
@@ -59,6 +60,7 @@ impl Status {
             Status::ReadFault => 5,
             Status::WriteFault => 6,
             Status::Memory => 7,
+            Status::Unchained(_) => 8,
         }
     }
 }

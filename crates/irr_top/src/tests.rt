@@ -1,5 +1,6 @@
 use super::*;
 use irr_io::{MemSink, MemSource};
+use irr_lines::next_line;
 use std::alloc::Global;
 use std::test::Fail;
 
@@ -32,7 +33,30 @@ fn ran(
 // What `small` at a wave vector writes on this input, and its status.
 fn small_at(alloc: Global, input: &str, wave: &str) -> Result<(Status, Vec<u8>), Fail> {
     let bytes = Vec::from_slice(alloc, input.as_bytes())?;
-    ran(alloc, &["small", wave], bytes, Vec::new(alloc), 1000)
+    ran(alloc, &["small", wave], bytes, Vec::new(alloc), 1 << 20)
+}
+
+// Whether the lines of a text that begin with a word are these, or begin with these.
+fn lines_are(text: &[u8], word: &str, lines: &[&str], whole: bool) -> bool {
+    let mut rest = text;
+    let mut count: usize = 0;
+    while !rest.is_empty() {
+        let (line, behind) = next_line(rest);
+        if line.starts_with(word.as_bytes()) {
+            let Some(expected) = lines.get(count) else {
+                return false;
+            };
+            if !line.starts_with(expected.as_bytes()) {
+                return false;
+            }
+            if whole && line.len() != expected.len() {
+                return false;
+            }
+            count += 1;
+        }
+        rest = behind;
+    }
+    count == lines.len()
 }
 
 const INVERSION: &str = "-x,-y,-z\n";
@@ -68,6 +92,234 @@ fn the_small_representation_is_reported(rt: HostRuntime) -> Result<(), Fail> {
     Ok(())
 }
 
+const ORTHORHOMBIC: &str = "x+1/2,-y+1/2,-z\n-x,y+1/2,-z+1/2\n";
+
+const BODY_CENTRED: &str = "x+1/2,y+1/2,z+1/2\n-x+1/2,-y,z+1/2\n-x,y+1/2,-z+1/2\nz,x,y\n";
+
+const DIAMOND: &str =
+    "x,y+1/2,z+1/2\nx+1/2,y,z+1/2\n-x+3/4,-y+1/4,z+1/2\n-x+1/4,y+1/2,-z+3/4\nz,x,y\n\
+    y+3/4,x+1/4,-z+1/2\n-x,-y,-z\n";
+
+// The screw axis at the face of the zone: the square of its matrix is that of the translation, -1.
+const SCREW_REPORT: &str =
+    "report 1\nwave 0,1/2,0\norder 4\nops 2\nop 1 x,y,z\nop 2 -x,y+1/2,-z\nreps 2\n\
+    rep S1 dim 1\nchar 1 1*z^1\nmat 1 1\nmat 2 1*z^1\n\
+    rep S2 dim 1\nchar 1 -1*z^1\nmat 1 1\nmat 2 -1*z^1\nend\n";
+
+#[test]
+fn a_screw_axis_at_the_zone_face(rt: HostRuntime) -> Result<(), Fail> {
+    let (status, text) = small_at(rt.alloc(), SCREW, "0,1/2,0")?;
+    assert_eq!(rt; status, Status::Done);
+    assert_eq!(rt; text.as_slice(), SCREW_REPORT.as_bytes());
+
+    let bytes = Vec::from_slice(rt.alloc(), SCREW.as_bytes())?;
+    let words = ["small", "0,1/2,0"];
+    let (status, text) = ran(rt.alloc(), &words, bytes, Vec::new(rt.alloc()), 100)?;
+    assert_eq!(rt; status.code(), 6);
+    assert!(rt; SCREW_REPORT.as_bytes().starts_with(text.as_slice()));
+    assert_eq!(rt; text.len(), 100);
+    Ok(())
+}
+
+// Whether `small` at a wave vector is done, with a report of this order and number of operations, and these lines that begin with a word.
+fn has_report(
+    alloc: Global,
+    input: &str,
+    wave: &str,
+    head: [&str; 2],
+    word: &str,
+    lines: &[&str],
+) -> Result<bool, Fail> {
+    let (status, text) = small_at(alloc, input, wave)?;
+    if status.code() != 0 {
+        return Ok(false);
+    }
+    if !lines_are(&text, "order ", &head[..1], true) {
+        return Ok(false);
+    }
+    if !lines_are(&text, "ops ", &head[1..], true) {
+        return Ok(false);
+    }
+    Ok(lines_are(&text, word, lines, true))
+}
+
+#[test]
+fn the_inversion_at_the_zone_centre(rt: HostRuntime) -> Result<(), Fail> {
+    let chars = ["char 1 1", "char 1 -1"];
+    assert!(rt;
+        has_report(
+            rt.alloc(),
+            INVERSION,
+            "0,0,0",
+            ["order 2", "ops 2"],
+            "char ",
+            &chars
+        )?
+    );
+    Ok(())
+}
+
+#[test]
+fn three_screw_axes_at_a_corner_of_the_zone(rt: HostRuntime) -> Result<(), Fail> {
+    let chars = ["char 2 0 0 0"];
+    let wave = "1/2,1/2,1/2";
+    assert!(rt;
+        has_report(
+            rt.alloc(),
+            ORTHORHOMBIC,
+            wave,
+            ["order 4", "ops 4"],
+            "char ",
+            &chars
+        )?
+    );
+    Ok(())
+}
+
+#[test]
+fn three_screw_axes_at_an_edge_of_the_zone(rt: HostRuntime) -> Result<(), Fail> {
+    let chars = [
+        "char 1 1 1*z^1 -1*z^1",
+        "char 1 1 -1*z^1 1*z^1",
+        "char 1 -1 1*z^1 1*z^1",
+        "char 1 -1 -1*z^1 -1*z^1",
+    ];
+    let wave = "1/2,1/2,0";
+    assert!(rt;
+        has_report(
+            rt.alloc(),
+            ORTHORHOMBIC,
+            wave,
+            ["order 4", "ops 4"],
+            "char ",
+            &chars
+        )?
+    );
+    Ok(())
+}
+
+#[test]
+fn a_fourfold_screw_axis_inside_the_zone(rt: HostRuntime) -> Result<(), Fail> {
+    let chars = [
+        "char 1 1*z^6 1*z^3 -1*z^1",
+        "char 1 1*z^6 -1*z^3 1*z^1",
+        "char 1 -1*z^6 1*z^7 1*z^5",
+        "char 1 -1*z^6 -1*z^7 -1*z^5",
+    ];
+    let head = ["order 16", "ops 4"];
+    assert!(rt; has_report(rt.alloc(), "-y,x,z+1/4\n", "0,0,1/4", head, "char ", &chars)?);
+    Ok(())
+}
+
+#[test]
+fn a_threefold_axis_at_the_zone_centre(rt: HostRuntime) -> Result<(), Fail> {
+    let chars = [
+        "char 1 1 1",
+        "char 1 1*z^1 -1-1*z^1",
+        "char 1 -1-1*z^1 1*z^1",
+    ];
+    let head = ["order 3", "ops 3"];
+    assert!(rt; has_report(rt.alloc(), "-y,x-y,z\n", "0,0,0", head, "char ", &chars)?);
+    Ok(())
+}
+
+#[test]
+fn operations_of_a_little_group_are_numbered(rt: HostRuntime) -> Result<(), Fail> {
+    let (_, text) = small_at(rt.alloc(), ORTHORHOMBIC, "1/2,1/2,1/2")?;
+    let ops = [
+        "op 1 x,y,z",
+        "op 2 -x+1/2,-y,z+1/2",
+        "op 3 -x,y+1/2,-z+1/2",
+        "op 4 x+1/2,-y+1/2,-z",
+    ];
+    assert!(rt; lines_are(&text, "op ", &ops, true));
+    let (_, text) = small_at(rt.alloc(), "-y,x,z+1/4\n", "0,0,1/4")?;
+    let ops = [
+        "op 1 x,y,z",
+        "op 2 -x,-y,z+1/2",
+        "op 3 -y,x,z+1/4",
+        "op 4 y,-x,z+3/4",
+    ];
+    assert!(rt; lines_are(&text, "op ", &ops, true));
+    Ok(())
+}
+
+#[test]
+fn a_cubic_group_at_the_zone_centre(rt: HostRuntime) -> Result<(), Fail> {
+    let (status, text) = small_at(rt.alloc(), CUBIC, "0,0,0")?;
+    assert_eq!(rt; status, Status::Done);
+    assert!(rt; lines_are(&text, "order ", &["order 12"], true));
+    assert!(rt; lines_are(&text, "ops ", &["ops 48"], true));
+    assert!(rt; lines_are(&text, "op 2 ", &["op 2 -x,-y,-z"], true));
+    assert!(rt; lines_are(&text, "op 3 ", &["op 3 -x,-y,z"], true));
+    assert!(rt; lines_are(&text, "op 4 ", &["op 4 -x,-z,-y"], true));
+    let reps = [
+        "rep S1 dim 1",
+        "rep S2 dim 1",
+        "rep S3 dim 1",
+        "rep S4 dim 1",
+        "rep S5 dim 2",
+        "rep S6 dim 2",
+        "rep S7 dim 3",
+        "rep S8 dim 3",
+        "rep S9 dim 3",
+        "rep S10 dim 3",
+    ];
+    assert!(rt; lines_are(&text, "rep ", &reps, true));
+    let chars = [
+        "char 1 1 1 1 ",
+        "char 1 1 1 -1 ",
+        "char 1 -1 1 1 ",
+        "char 1 -1 1 -1 ",
+        "char 2 2 2 0 ",
+        "char 2 -2 2 0 ",
+        "char 3 3 -1 1 ",
+        "char 3 3 -1 -1 ",
+        "char 3 -3 -1 1 ",
+        "char 3 -3 -1 -1 ",
+    ];
+    assert!(rt; lines_are(&text, "char ", &chars, false));
+    Ok(())
+}
+
+#[test]
+fn three_representations_of_two_rows(rt: HostRuntime) -> Result<(), Fail> {
+    let reps = ["rep S1 dim 2", "rep S2 dim 2", "rep S3 dim 2"];
+    let head = ["order 24", "ops 12"];
+    assert!(rt; has_report(rt.alloc(), BODY_CENTRED, "1/2,1/2,1/2", head, "rep ", &reps)?);
+    Ok(())
+}
+
+#[test]
+fn four_representations_of_two_rows(rt: HostRuntime) -> Result<(), Fail> {
+    let reps = [
+        "rep S1 dim 2",
+        "rep S2 dim 2",
+        "rep S3 dim 2",
+        "rep S4 dim 2",
+    ];
+    let head = ["order 24", "ops 16"];
+    assert!(rt; has_report(rt.alloc(), DIAMOND, "0,1,0", head, "rep ", &reps)?);
+    Ok(())
+}
+
+// The little co-group 4mm.
+#[test]
+fn a_line_of_a_cubic_group(rt: HostRuntime) -> Result<(), Fail> {
+    let reps = [
+        "rep S1 dim 1",
+        "rep S2 dim 1",
+        "rep S3 dim 1",
+        "rep S4 dim 1",
+        "rep S5 dim 2",
+    ];
+    let head = ["order 240", "ops 8"];
+    assert!(rt; has_report(rt.alloc(), CUBIC, "1/20,0,0", head, "rep ", &reps)?);
+    let head = ["order 252", "ops 8"];
+    assert!(rt; has_report(rt.alloc(), CUBIC, "1/21,0,0", head, "rep ", &reps)?);
+    Ok(())
+}
+
 #[test]
 fn words_are_refused(rt: HostRuntime) -> Result<(), Fail> {
     for (words, line) in [
@@ -97,9 +349,7 @@ fn inputs_are_refused(rt: HostRuntime) -> Result<(), Fail> {
         ("#\n", "0,0,0", 3, "bad input line 1: shape 1\n"),
         ("-x,-y,-z\nx,y\n", "0,0,0", 3, "bad input line 2: shape 1\n"),
         ("-x,-y,-z\r", "0,0,0", 3, "bad input line 1: shape 1\n"),
-        (INVERSION, "0,0,0", 4, "too large: co-group 2\n"),
-        (CUBIC, "1/20,0,0", 4, "too large: co-group 8\n"),
-        (CUBIC, "1/21,0,0", 4, "too large: co-group 8\n"),
+        (CUBIC, "1/1001,0,0", 4, "too large: order 12012\n"),
         ("x+y,y,z\n", "0,0,0", 4, "too large: rotations\n"),
         (
             "-x+1/401,y,z\nx,-y+1/409,z\n",
@@ -162,6 +412,10 @@ fn a_line_of_a_refusal_is_made(rt: HostRuntime) -> Result<(), Fail> {
     };
     let line = text_refusal(rt.alloc(), &status)?;
     assert_eq!(rt; line.as_slice(), b"bad input line 2: shape 4\n".as_slice());
+    let status = Status::Unchained(vec![in rt.alloc(); 0, 2, 11]?);
+    let line = text_refusal(rt.alloc(), &status)?;
+    assert_eq!(rt; line.as_slice(), b"unchained: 1 3 12\n".as_slice());
+    assert_eq!(rt; status.code(), 8);
     assert_eq!(rt; Status::TooLarge(Kind::Bytes).code(), 4);
     assert_eq!(rt; Status::Memory.code(), 7);
     Ok(())

@@ -3,7 +3,7 @@ ghost use Rattle.std.specs.Prelude.{◌≡◌, ◌+◌, ◌⊎◌, ℕ, List, So
 ghost use Rattle.irr_io.specs.Count.{Rose, CountsAtMost};
 ghost use Rattle.irr_io.specs.Told.{IsAtEnd};
 ghost use Rattle.irr_top.specs.Command.{IsCommand, IsFaulty};
-ghost use Rattle.irr_top.specs.Asked.{Asks, input_limit};
+ghost use Rattle.irr_top.specs.Asked.{Asks, HaveSteps, IsPastLimits, input_limit};
 ghost use Rattle.irr_top.specs.Answered.{HasText, Answers, CutOff, streams};
 
 use crate::answer::small;
@@ -38,11 +38,13 @@ pub fn run<I: Source, O: Sink>(
         (streams (I.left source.old) (O.held sink.old) (O.held sink.new) (O.writes sink.old) (O.writes sink.new)) }
     ensures memory { result ≡ Status.Memory → O.held sink.new ≡ O.held sink.old }
 
-    // What is asked for is answered, unless a stream fails or memory is wanting.
+    // What is asked for is answered, unless a stream fails or memory is wanting: each refusal without more ado, the report where
+    // the tables of the little group have steps.
     ensures usage { (n : ℕ) → IsFaulty (map (λ w. w.items) words.now) n →
         (result ≡ Status.Usage n) ⊎ ((result ≡ Status.Memory) ⊎ (result ≡ Status.WriteFault)) }
     ensures asked { (bytes text : List ℕ) (s : Status) → I.left source.old ≡ Some bytes →
         Asks (map (λ w. w.items) words.now) bytes s text →
+        (IsPastLimits s → HaveSteps (map (λ w. w.items) words.now) bytes) →
         (result ≡ s) ⊎ ((result ≡ Status.Memory) ⊎ ((result ≡ Status.WriteFault) ⊎ (result ≡ Status.ReadFault))) }
 
     // At the end of a run that is done, the input was read to its end, and it is read in few reads.

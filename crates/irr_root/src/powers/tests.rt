@@ -2,6 +2,7 @@ ghost use Rattle.std.specs.Prelude.{◌≡◌, IfOk};
 ghost use Rattle.irr_rep.specs.Twisted.{place_count};
 
 use super::*;
+use crate::place_powers::turned_power;
 use std::test::Fail;
 
 // The little group of P2_1 at 0,1/2,0, with z = i: the square of the screw is a lattice translation with
@@ -27,5 +28,18 @@ fn powers_of_a_screw(rt: HostRuntime) -> Result<(), Fail> {
     assert!(rt; unit.places.as_slice() == [0].as_slice());
     assert!(rt; unit.exponents.as_slice() == [0].as_slice());
     assert_eq!(rt; unit.turn, 0);
+    Ok(())
+}
+
+// The square of the screw is the unit with z^2 = -1 beside it, and its cube the screw with z^2.
+#[test]
+fn square_and_cube_of_a_screw(rt: HostRuntime) -> Result<(), Fail> {
+    let t = screw_axis(rt.alloc())?;
+    let square = turned_power(&t, 2, 1);
+    assert_eq!(rt; square.place, 0);
+    assert_eq!(rt; square.exponent, 2);
+    let cube = turned_power(&t, 3, 1);
+    assert_eq!(rt; cube.place, 1);
+    assert_eq!(rt; cube.exponent, 2);
     Ok(())
 }

@@ -1,8 +1,7 @@
 -- One trace more.
-use Rattle.std.proofs.Common.{rules, ℕ, ◌≡◌, refl, sym, ◌∙◌, ap, subst, suc, ◌<◌, ◌+◌, ◌-◌, [], ◌∷◌, ◌++◌, length, map, slice_index, All, arith}
+use Rattle.std.proofs.Common.{rules, ◌≡◌, refl, sym, ◌∙◌, ap, subst, ◌<◌, ◌+◌, [], ◌∷◌, length, map, slice_index, All, arith}
 use Rattle.std.proofs.Math.ListN.{length-append}
 use Rattle.std.proofs.lemmas.List.Elements.{All-nil, All-push}
-use Rattle.irr_algebra.specs.Fin.{to_nat}
 use Rattle.irr_algebra.proofs.Indices.{from_nat, to_nat-from_nat, to_nat-lt}
 use Rattle.irr_rep.specs.Twisted.{place_count}
 use Rattle.irr_char.specs.Rows.{row_of}
@@ -14,7 +13,8 @@ use Rattle.irr_root.proofs.choice.all_traces.Goals as goal
 pub loop-n-init : goal.loop-n-init
 loop-n-init g c = (
   ap length c.new-traces.ensures.items,
-  subst (All (λ x. g.S.Scalar.order_of x ≡ c.args.order.now.n)) (sym c.new-traces.ensures.items) (All-nil (λ x. g.S.Scalar.order_of x ≡ c.args.order.now.n)),
+  subst (All (λ x. g.S.Scalar.order_of x ≡ c.args.order.now.n)) (sym c.new-traces.ensures.items) (All-nil (λ x. g.S.Scalar.order_of x
+      ≡ c.args.order.now.n)),
   λ d m s em ew n l. absurd (omega (arith, l)),
 )
 
@@ -32,7 +32,8 @@ trace_at-requires-clause-extension g c =
     let n = from_nat (place_count c.args.inner.now) c.loop-n.n below in (
       e.0,
       n,
-      coset-number e.0 n c.loop-n.n (slice_index c.args.members.now c.loop-n.n) c.table-x.result (to_nat-from_nat (place_count c.args.inner.now) c.loop-n.n below) refl
+      coset-number e.0 n c.loop-n.n (slice_index c.args.members.now c.loop-n.n) c.table-x.result (to_nat-from_nat
+          (place_count c.args.inner.now) c.loop-n.n below) refl
           c.table-x.ensures.product,
       e.1,
       e.2,
@@ -51,7 +52,8 @@ loop-n-preserved g c =
       subst (All (λ x. g.S.Scalar.order_of x ≡ c.args.order.now.n)) (sym c.in_ok-push.ensures.items)
           (All-push (λ x. g.S.Scalar.order_of x ≡ c.args.order.now.n) old r c.loop-n.invariant.1 c.in_ok-r.ensures.order),
       λ d m s em ew n l.
-          subst (λ xs. IsTraceAt d s n m (row_of c.args.order.now.n (map (g.S.Scalar.value c.args.order.now.n) xs) n)) (sym c.in_ok-push.ensures.items)
+          subst (λ xs. IsTraceAt d s n m (row_of c.args.order.now.n (map (g.S.Scalar.value c.args.order.now.n) xs) n))
+          (sym c.in_ok-push.ensures.items)
           (row-next N (value N) old r (λ a x. IsTraceAt d s a m x) c.loop-n.n c.loop-n.invariant.0 (c.loop-n.invariant.2 d m s em ew)
           (λ a e. c.in_ok-r.ensures.trace d a m s
           (coset-number d a c.loop-n.n (slice_index c.args.members.now c.loop-n.n) c.table-x.result e refl c.table-x.ensures.product) em ew) n l),

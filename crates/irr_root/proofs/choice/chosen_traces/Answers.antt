@@ -1,5 +1,5 @@
 -- The first trace is that of some extension, and with it all are.
-use Rattle.std.proofs.Common.{ℕ, ◌≡◌, refl, sym, ◌∙◌, ap, subst, ◌<◌, ◌-◌, ◌^◌, length, map, slice_index}
+use Rattle.std.proofs.Common.{◌≡◌, refl, sym, ◌∙◌, ap, subst, ◌<◌, ◌-◌, ◌^◌, map, slice_index}
 use Rattle.irr_algebra.specs.Fin.{to_nat}
 use Rattle.irr_algebra.specs.Ring.{whole}
 use Rattle.irr_algebra.proofs.Indices.{from_nat, to_nat-from_nat}
@@ -31,8 +31,12 @@ first_trace-requires-clause-place g c =
     let d = c.requires.choice in
     let k = place_count c.args.inner.now in
     let below = subst (λ l. c.in_ok-m.m < l) d.step.count c.in_ok-m.ensures.within in
-    let m = from_nat k c.in_ok-m.m below in
-    (d, m, coset-number d m c.in_ok-m.m (slice_index c.args.members.now c.in_ok-m.m) c.table-y.result (to_nat-from_nat k c.in_ok-m.m below) refl c.table-y.ensures.product)
+    let m = from_nat k c.in_ok-m.m below in (
+      d,
+      m,
+      coset-number d m c.in_ok-m.m (slice_index c.args.members.now c.in_ok-m.m) c.table-y.result
+          (to_nat-from_nat k c.in_ok-m.m below) refl c.table-y.ensures.product,
+    )
 
 pub all_traces-requires-clause-factor_power : goal.all_traces-requires-clause-factor_power
 all_traces-requires-clause-factor_power g c =
@@ -48,7 +52,8 @@ all_traces-requires-clause-power g c =
     record {
       has_order = c.in_ok-power.ensures.order ∙ c.in_ok-root.ensures.small.has_order;
       few = subst (IsRootSum N 2304 1)
-          (sym (subst (λ u. value u c.in_ok-power.power ≡ number_power (numbers u) (value u root) (c.args.p - 1)) c.in_ok-root.ensures.small.has_order c.in_ok-power.ensures.value))
+          (sym (subst (λ u. value u c.in_ok-power.power ≡ number_power (numbers u) (value u root)
+          (c.args.p - 1)) c.in_ok-root.ensures.small.has_order c.in_ok-power.ensures.value))
           (power-small N (c.args.p - 1) (value N root) (one-or-two c.requires.choice) c.in_ok-root.ensures.small.few);
     }
 
@@ -69,7 +74,8 @@ all_traces-requires-clause-extension g c =
       em,
       u.0,
       u.1,
-      subst (λ v. value v c.in_ok-power.power ≡ number_power (numbers v) (value v root) (c.args.p - 1)) c.in_ok-root.ensures.small.has_order c.in_ok-power.ensures.value
+      subst (λ v. value v c.in_ok-power.power ≡ number_power (numbers v) (value v root)
+          (c.args.p - 1)) c.in_ok-root.ensures.small.has_order c.in_ok-power.ensures.value
           ∙ ap (λ x. number_power (numbers N) x (c.args.p - 1)) (sym u.2),
     )
 
@@ -85,7 +91,8 @@ returns g c d =
     let is : to_nat (from_nat k c.in_ok-m.m below) ≡ c.in_ok-m.m = to_nat-from_nat k c.in_ok-m.m below in
     let em = coset-number d m c.in_ok-m.m (slice_index c.args.members.now c.in_ok-m.m) c.table-y.result is refl c.table-y.ensures.product in
     let t = c.in_ok-root.ensures.trace d m em in
-    let ew = subst (λ v. value v c.in_ok-power.power ≡ number_power (numbers v) (value v root) (c.args.p - 1)) c.in_ok-root.ensures.small.has_order c.in_ok-power.ensures.value in
+    let ew = subst (λ v. value v c.in_ok-power.power ≡ number_power (numbers v) (value v root)
+    (c.args.p - 1)) c.in_ok-root.ensures.small.has_order c.in_ok-power.ensures.value in
     let row = row_of N (map (value N) c.in_ok-traces.traces.items) in
     let all = c.in_ok-traces.ensures.traces d m s em ew in
     let ne = first-not-zero d m s t (c.in_ok-m.ensures.not_zero d m is) in

@@ -1,5 +1,5 @@
 -- Not all sums are 0.
-use Rattle.std.proofs.Common.{rules, ℕ, ◌≡◌, refl, sym, ◌∙◌, ap, subst, suc, ◌<◌, length, slice_index, arith}
+use Rattle.std.proofs.Common.{rules, ◌≡◌, refl, sym, subst, suc, ◌<◌, length, slice_index, arith}
 use Rattle.std.specs.Prelude.{true, false}
 use native.Mathlib.Decide.{dec_le}
 use Rattle.irr_algebra.specs.Fin.{to_nat}
@@ -25,7 +25,8 @@ returns-then-not-is_zero-clause-not_zero g c = λ d n e x is z.
     let r = c.in_ok-sum.sum in
     let place = coset-number d n c.loop-k.k (slice_index c.args.members.now c.loop-k.k) c.table-x.result e refl c.table-x.ensures.product in
     let zero = target-zero d n n (value N r) (c.in_ok-sum.ensures.target d n n place place) x is z in
-    not-true c.is_zero.result (let e : c.is_zero.result ≡ false = search rules in e) (c.is_zero.ensures.zero.1 (subst (λ u. value u r ≡ (numbers u).zero) (sym c.in_ok-sum.ensures.small.has_order) zero))
+    not-true c.is_zero.result (let e : c.is_zero.result ≡ false = search rules in e) (c.is_zero.ensures.zero.1 (subst (λ u. value u r
+    ≡ (numbers u).zero) (sym c.in_ok-sum.ensures.small.has_order) zero))
 
 pub loop-k-preserved : goal.loop-k-preserved
 loop-k-preserved g c = λ d n l ne.
@@ -38,7 +39,8 @@ loop-k-preserved g c = λ d n l ne.
           let same : to_nat n ≡ c.loop-k.k = omega (arith, l, m) in
           let place = coset-number d n c.loop-k.k (slice_index c.args.members.now c.loop-k.k) c.table-x.result same refl c.table-x.ensures.product in
           target-not-zero d n n (value N r) (c.in_ok-sum.ensures.target d n n place place) ne
-          (subst (λ u. value u r ≡ (numbers u).zero) c.in_ok-sum.ensures.small.has_order (c.is_zero.ensures.zero.0 (is-true c.is_zero.result (let e : c.is_zero.result ≡ true = search rules in e))))
+          (subst (λ u. value u r ≡ (numbers u).zero) c.in_ok-sum.ensures.small.has_order (c.is_zero.ensures.zero.0 (is-true c.is_zero.result
+          (let e : c.is_zero.result ≡ true = search rules in e))))
     ]
 
 pub unreachable-requires : goal.unreachable-requires

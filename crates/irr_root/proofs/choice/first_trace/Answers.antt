@@ -1,5 +1,5 @@
 -- The trace of some extension solves the equation, and is a candidate.
-use Rattle.std.proofs.Common.{◌≡◌, refl, sym, ◌∙◌, ap, subst, length, map, ◌<◌, ◌-◌, ◌*◌, ◌^◌, Contains}
+use Rattle.std.proofs.Common.{◌≡◌, refl, sym, subst, map, ◌-◌, Contains}
 use Rattle.irr_number.specs.Number.{Number, numbers}
 use Rattle.irr_clifford.specs.Roots.{number_power}
 use Rattle.irr_root.specs.RootSums.{AreSmall}
@@ -41,11 +41,13 @@ first_root-requires-clause-exists g c =
     let em = c.requires.place.2 in
     let u = some-extension d in
     subst (λ n. (r : Number n) × Contains (map (value n) c.as_slice.result.now) r
-    × ((numbers n).mul (value n c.args.factor.now) ((numbers n).mul r (number_power (numbers n) r (c.args.p - 1))) ≡ value n c.in_ok-sum.sum)) (sym c.requires.factor.has_order) (
+    × ((numbers n).mul (value n c.args.factor.now) ((numbers n).mul r (number_power (numbers n) r (c.args.p - 1)))
+    ≡ value n c.in_ok-sum.sum)) (sym c.requires.factor.has_order) (
       u.0 m,
       subst (λ xs. Contains (map (value N) xs) (u.0 m)) (sym c.as_slice.ensures.value)
           (c.in_ok-candidates.ensures.traces c.args.members.now c.args.g N d.step (numbered d) c.args.rows d.family d.traces refl u.0 u.1 m em),
-      solution-exists d u.0 u.1 m m (value N c.args.factor.now) (number_power (numbers N) (u.0 m) (c.args.p - 1)) (value N c.in_ok-sum.sum) c.requires.power refl
+      solution-exists d u.0 u.1 m m (value N c.args.factor.now) (number_power (numbers N) (u.0 m) (c.args.p - 1))
+          (value N c.in_ok-sum.sum) c.requires.power refl
           (c.in_ok-sum.ensures.target d m m em em),
     )
 

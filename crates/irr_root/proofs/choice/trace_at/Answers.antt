@@ -1,7 +1,6 @@
 -- The trace of the extension solves the equation, and is a candidate.
-use Rattle.std.proofs.Common.{◌≡◌, refl, sym, ◌∙◌, ap, subst, length, map, ◌<◌, ◌-◌, ◌*◌, ◌^◌, Contains}
+use Rattle.std.proofs.Common.{◌≡◌, refl, sym, subst, map, Contains}
 use Rattle.irr_number.specs.Number.{Number, numbers}
-use Rattle.irr_clifford.specs.Roots.{number_power}
 use Rattle.irr_root.specs.RootSums.{AreSmall}
 use Rattle.irr_root.proofs.ChoiceLaws.{coset-lt, numbered, own-character, positions-below, solution-exists, trace-of}
 use Rattle.irr_root.proofs.choice.trace_at.Goals as goal
@@ -40,7 +39,8 @@ first_solution-requires-clause-exists g c =
     let m = e.3 in
     let u = e.5 in
     subst (λ n. (r : Number n) × Contains (map (value n) c.as_slice.result.now) r
-    × ((numbers n).mul (value n c.args.factor.now) ((numbers n).mul r (value n c.args.power.now)) ≡ value n c.in_ok-sum.sum)) (sym c.requires.factor.has_order) (
+    × ((numbers n).mul (value n c.args.factor.now) ((numbers n).mul r (value n c.args.power.now))
+    ≡ value n c.in_ok-sum.sum)) (sym c.requires.factor.has_order) (
       u n,
       subst (λ xs. Contains (map (value N) xs) (u n)) (sym c.as_slice.ensures.value)
           (c.in_ok-candidates.ensures.traces c.args.members.now c.args.g N d.step (numbered d) c.args.rows d.family d.traces refl u e.6 n e.2),
@@ -55,5 +55,6 @@ pub returns-clause-trace : goal.returns-clause-trace
 returns-clause-trace g c d n m s en em ew =
     let N = c.args.order.now.n in
     let value = g.S.Scalar.value in
-    trace-of d n m s (value N c.args.factor.now) (value N c.args.power.now) (value N c.in_ok-solution.solution) (value N c.in_ok-sum.sum) c.requires.factor_power ew
+    trace-of d n m s (value N c.args.factor.now) (value N c.args.power.now) (value N c.in_ok-solution.solution)
+    (value N c.in_ok-sum.sum) c.requires.factor_power ew
     (c.in_ok-sum.ensures.target d n m en em) (c.in_ok-solution.ensures.solution N c.requires.factor.has_order)

@@ -1,10 +1,8 @@
 -- 1 times k.
-use Rattle.std.proofs.Common.{rules, ◌≡◌, sym, ◌∙◌, ap, subst, ℕ, ◌*◌, ◌<◌, ◌≤◌, ◌^◌, ℤ, pos, to_z, w64, arith}
-use native.Mathlib.Nat as Nat
+use Rattle.std.proofs.Common.{◌≡◌, sym, ◌∙◌, subst, ◌*◌, ◌≤◌, ◌^◌, pos, to_z, w64, arith}
 use Rattle.std.specs.Int.RustNames.{unsigned_abs}
 use Rattle.std.proofs.lemmas.Int.{to_z_pos}
-use Rattle.irr_algebra.specs.Ring.{whole}
-use Rattle.irr_number.specs.Number.{Number, numbers}
+use Rattle.irr_number.specs.Number.{numbers}
 use Rattle.irr_canonical.specs.RootSum.{IsRootSum}
 use Rattle.irr_canonical.specs.Coefficient.{size}
 use Rattle.irr_canonical.proofs.RootSums.{IsRootSum-more}
@@ -36,7 +34,8 @@ returns-clause-small g c =
     let is : to_z w64 c.args.k ≡ pos c.args.k = to_z_pos w64 c.args.k (let few : c.args.k ≤ 2304 = c.requires.few in omega (arith, few)) in
     record {
       has_order = c.in_ok-scale.ensures.order ∙ c.in_ok-one.ensures.order;
-      few = subst (IsRootSum n 2304 1) (sym (whole_of_scaled g.S.Scalar.value (g.S.Scalar.order_of x) n c.args.k (to_z w64 c.args.k) x y c.in_ok-one.ensures.order c.in_ok-one.ensures.value is c.in_ok-scale.ensures.value))
+      few = subst (IsRootSum n 2304 1) (sym (whole_of_scaled g.S.Scalar.value (g.S.Scalar.order_of x) n c.args.k
+          (to_z w64 c.args.k) x y c.in_ok-one.ensures.order c.in_ok-one.ensures.value is c.in_ok-scale.ensures.value))
           (IsRootSum-more n 2304 c.requires.few (whole-small n c.args.k));
     }
 
@@ -46,4 +45,5 @@ returns-clause-value g c =
     let y = c.in_ok-scale.field-0 in
     let n = c.args.order.now.n in
     let is : to_z w64 c.args.k ≡ pos c.args.k = to_z_pos w64 c.args.k (let few : c.args.k ≤ 2304 = c.requires.few in omega (arith, few)) in
-    whole_of_scaled g.S.Scalar.value (g.S.Scalar.order_of x) n c.args.k (to_z w64 c.args.k) x y c.in_ok-one.ensures.order c.in_ok-one.ensures.value is c.in_ok-scale.ensures.value
+    whole_of_scaled g.S.Scalar.value (g.S.Scalar.order_of x) n c.args.k
+    (to_z w64 c.args.k) x y c.in_ok-one.ensures.order c.in_ok-one.ensures.value is c.in_ok-scale.ensures.value

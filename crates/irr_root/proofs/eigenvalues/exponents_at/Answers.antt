@@ -49,8 +49,7 @@ nonzero_rem-first g c =
     let len : c.len-order.result ≡ length c.in_ok-powers.powers.places.items = search rules in
     let m = length c.in_ok-powers.powers.places.items in
     let q = c.order.result / c.len-order.result in
-    let split : T.order ≡ length c.in_ok-powers.powers.places.items * (c.order.result / c.len-order.result) =
-    quotient-product m T.order w.is_order.positive (powers-divide-order T i w)
+    let split : T.order ≡ length c.in_ok-powers.powers.places.items * (c.order.result / c.len-order.result) = quotient-product m T.order w.is_order.positive (powers-divide-order T i w)
     ∙ ap₂ (λ a b. m * (a / b)) (sym c.order.ensures.order) (sym len) in
     let above : 0 < c.order.result / c.len-order.result = positive-factor T.order m q T.order_positive split in
     above
@@ -68,8 +67,7 @@ multiplicities-requires-clause-first g c =
     let len : c.len-order.result ≡ length c.in_ok-powers.powers.places.items = search rules in
     let m = length c.in_ok-powers.powers.places.items in
     let q = c.order.result / c.len-order.result in
-    let split : T.order ≡ length c.in_ok-powers.powers.places.items * (c.order.result / c.len-order.result) =
-    quotient-product m T.order w.is_order.positive (powers-divide-order T i w)
+    let split : T.order ≡ length c.in_ok-powers.powers.places.items * (c.order.result / c.len-order.result) = quotient-product m T.order w.is_order.positive (powers-divide-order T i w)
     ∙ ap₂ (λ a b. m * (a / b)) (sym c.order.ensures.order) (sym len) in
     let above : 0 < c.order.result / c.len-order.result = positive-factor T.order m q T.order_positive split in
     Nat.mod-lt (c.in_ok-powers.powers.turn / c.len-order.result) above
@@ -82,8 +80,7 @@ multiplicities-requires-clause-step g c =
     let len : c.len-order.result ≡ length c.in_ok-powers.powers.places.items = search rules in
     let m = length c.in_ok-powers.powers.places.items in
     let q = c.order.result / c.len-order.result in
-    let split : T.order ≡ length c.in_ok-powers.powers.places.items * (c.order.result / c.len-order.result) =
-    quotient-product m T.order w.is_order.positive (powers-divide-order T i w)
+    let split : T.order ≡ length c.in_ok-powers.powers.places.items * (c.order.result / c.len-order.result) = quotient-product m T.order w.is_order.positive (powers-divide-order T i w)
     ∙ ap₂ (λ a b. m * (a / b)) (sym c.order.ensures.order) (sym len) in
     let above : 0 < c.order.result / c.len-order.result = positive-factor T.order m q T.order_positive split in
     split
@@ -96,12 +93,10 @@ multiplicities-requires-clause-same_power g c =
     let len : c.len-order.result ≡ length c.in_ok-powers.powers.places.items = search rules in
     let m = length c.in_ok-powers.powers.places.items in
     let q = c.order.result / c.len-order.result in
-    let split : T.order ≡ length c.in_ok-powers.powers.places.items * (c.order.result / c.len-order.result) =
-    quotient-product m T.order w.is_order.positive (powers-divide-order T i w)
+    let split : T.order ≡ length c.in_ok-powers.powers.places.items * (c.order.result / c.len-order.result) = quotient-product m T.order w.is_order.positive (powers-divide-order T i w)
     ∙ ap₂ (λ a b. m * (a / b)) (sym c.order.ensures.order) (sym len) in
     let above : 0 < c.order.result / c.len-order.result = positive-factor T.order m q T.order_positive split in
-    ap (λ k. m * (c.in_ok-powers.powers.turn / k % q) % T.order) len
-    ∙ turn-power T.order m q c.in_ok-powers.powers.turn w.is_order.positive (powers-divide-turn T i w) split
+    ap (λ k. m * (c.in_ok-powers.powers.turn / k % q) % T.order) len ∙ turn-power T.order m q c.in_ok-powers.powers.turn w.is_order.positive (powers-divide-turn T i w) split
 
 pub repeated-requires-clause-positive : goal.repeated-requires-clause-positive
 repeated-requires-clause-positive g c =
@@ -111,8 +106,7 @@ repeated-requires-clause-positive g c =
     let len : c.len-order.result ≡ length c.in_ok-powers.powers.places.items = search rules in
     let m = length c.in_ok-powers.powers.places.items in
     let q = c.order.result / c.len-order.result in
-    let split : T.order ≡ length c.in_ok-powers.powers.places.items * (c.order.result / c.len-order.result) =
-    quotient-product m T.order w.is_order.positive (powers-divide-order T i w)
+    let split : T.order ≡ length c.in_ok-powers.powers.places.items * (c.order.result / c.len-order.result) = quotient-product m T.order w.is_order.positive (powers-divide-order T i w)
     ∙ ap₂ (λ a b. m * (a / b)) (sym c.order.ensures.order) (sym len) in
     let above : 0 < c.order.result / c.len-order.result = positive-factor T.order m q T.order_positive split in
     above
@@ -125,21 +119,16 @@ returns g c d p e =
     let len : c.len-order.result ≡ length c.in_ok-powers.powers.places.items = search rules in
     let m = length c.in_ok-powers.powers.places.items in
     let q = c.order.result / c.len-order.result in
-    let split : T.order ≡ length c.in_ok-powers.powers.places.items * (c.order.result / c.len-order.result) =
-    quotient-product m T.order w.is_order.positive (powers-divide-order T i w)
+    let split : T.order ≡ length c.in_ok-powers.powers.places.items * (c.order.result / c.len-order.result) = quotient-product m T.order w.is_order.positive (powers-divide-order T i w)
     ∙ ap₂ (λ a b. m * (a / b)) (sym c.order.ensures.order) (sym len) in
     let above : 0 < c.order.result / c.len-order.result = positive-factor T.order m q T.order_positive split in
     let r = c.in_ok-powers.powers.turn / c.len-order.result % q in
-    let same = ap (λ k. m * (c.in_ok-powers.powers.turn / k % q) % T.order) len
-    ∙ turn-power T.order m q c.in_ok-powers.powers.turn w.is_order.positive (powers-divide-turn T i w) split in
-    let positive = character-positive g.S.Scalar.order_of g.S.Scalar.value
-    (λ (x : g.row.S.Denot). g.met.S.Scalar.admitted_positive (g.S.Scalar.order_of x) (g.met.S.Scalar.order_admitted x))
+    let same = ap (λ k. m * (c.in_ok-powers.powers.turn / k % q) % T.order) len ∙ turn-power T.order m q c.in_ok-powers.powers.turn w.is_order.positive (powers-divide-turn T i w) split in
+    let positive = character-positive g.S.Scalar.order_of g.S.Scalar.value (λ (x : g.row.S.Denot). g.met.S.Scalar.admitted_positive (g.S.Scalar.order_of x) (g.met.S.Scalar.order_admitted x))
     c.args.t.now.not_empty T c.args.character.now d in
     IfOk-weaker c.repeated.result _ _ (λ es listed.
-    exponents-at T d.n positive d.divides p (c.in_ok-powers.ensures p e) d.representation r q
-    (Nat.mod-lt (c.in_ok-powers.powers.turn / c.len-order.result) above) split same
+    exponents-at T d.n positive d.divides p (c.in_ok-powers.ensures p e) d.representation r q (Nat.mod-lt (c.in_ok-powers.powers.turn / c.len-order.result) above) split same
     c.as_slice.result.now es.items (ap length c.as_slice.ensures.value ∙ c.in_ok-times.ensures.count)
-    (λ a l. subst (λ xs. Occurs (d.representation.at p) (power (numbers d.n) (root_power d.n (d.n / T.order)) (r + a * q)) (slice_index xs a))
-    (sym c.as_slice.ensures.value)
+    (λ a l. subst (λ xs. Occurs (d.representation.at p) (power (numbers d.n) (root_power d.n (d.n / T.order)) (r + a * q)) (slice_index xs a)) (sym c.as_slice.ensures.value)
     (c.in_ok-times.ensures.occurs d p (c.in_ok-powers.ensures p e) a l)) listed)
     c.repeated.ensures

@@ -13,5 +13,4 @@ abbrev pub invariant-loop-a : goal.invariant-loop-a
 invariant-loop-a g l = (length l.times.items ≡ l.a)
     × ((d : IsCharacter g.S.Scalar.order_of g.S.Scalar.value (phase_table l.t) l.character) (p : Fin (place_count l.t))
     → ArePowers (phase_table l.t) p l.powers.places.items l.powers.exponents.items l.powers.turn → (b : ℕ) → b < l.a
-    → Occurs (d.representation.at p) (power (numbers d.n) (root_power d.n (d.n / (phase_table l.t).order)) (l.first + b * l.step))
-    (slice_index l.times.items b))
+    → Occurs (d.representation.at p) (power (numbers d.n) (root_power d.n (d.n / (phase_table l.t).order)) (l.first + b * l.step)) (slice_index l.times.items b))

@@ -15,12 +15,8 @@ fits_small a l = search rules
 pub power_sum-requires-clause-row : goal.power_sum-requires-clause-row
 power_sum-requires-clause-row g c =
     let d = c.requires.character in
-    let positive = λ (x : g.row.S.Denot). g.met.S.Scalar.admitted_positive (g.S.Scalar.order_of x) (g.met.S.Scalar.order_admitted x) in (
-      d.n,
-      d.divides,
-      character-small g.S.Scalar.order_of g.S.Scalar.value positive c.args.t.now.not_empty
-          (phase_table c.args.t.now) c.args.character.now d,
-    )
+    let positive = λ (x : g.row.S.Denot). g.met.S.Scalar.admitted_positive (g.S.Scalar.order_of x) (g.met.S.Scalar.order_admitted x) in
+    (d.n, d.divides, character-small g.S.Scalar.order_of g.S.Scalar.value positive c.args.t.now.not_empty (phase_table c.args.t.now) c.args.character.now d)
 
 pub whole_number-requires : goal.whole_number-requires
 whole_number-requires g c =
@@ -30,15 +26,13 @@ whole_number-requires g c =
     let T = phase_table c.args.t.now in
     let positive = λ (x : g.row.S.Denot). g.met.S.Scalar.admitted_positive (g.S.Scalar.order_of x) (g.met.S.Scalar.order_admitted x) in
     let small = character-small order value positive c.args.t.now.not_empty T c.args.character.now d in
-    let o = character-counted order value positive c.args.t.now.not_empty T c.args.character.now d c.requires.powers.0 c.requires.powers.1 c.args.e
-    c.requires.exponent c.requires.same_power
+    let o = character-counted order value positive c.args.t.now.not_empty T c.args.character.now d c.requires.powers.0 c.requires.powers.1 c.args.e c.requires.exponent c.requires.same_power
     (table-order-le c.args.t.now) (order c.in_ok-sum.sum) (c.in_ok-sum.ensures.order d.n small) in
     record { whole = (length c.args.powers.now.places.items * o.0, o.3, c.in_ok-sum.ensures.value ∙ o.2) }
 
 pub overflow_cast-result : goal.overflow_cast-result
 overflow_cast-result g c =
-    let few : length c.args.powers.now.places.items ≤ 12000 = Nat.le_trans
-    (powers-length (phase_table c.args.t.now) c.requires.powers.0 c.requires.powers.1) (table-order-le c.args.t.now) in
+    let few : length c.args.powers.now.places.items ≤ 12000 = Nat.le_trans (powers-length (phase_table c.args.t.now) c.requires.powers.0 c.requires.powers.1) (table-order-le c.args.t.now) in
     let is : c.len.result ≡ length c.args.powers.now.places.items = search rules in
     fits_small c.len.result (omega (arith, few, is))
 
@@ -49,11 +43,9 @@ returns g c d p w =
     let T = phase_table c.args.t.now in
     let positive = λ (x : g.row.S.Denot). g.met.S.Scalar.admitted_positive (g.S.Scalar.order_of x) (g.met.S.Scalar.order_admitted x) in
     let small = character-small order value positive c.args.t.now.not_empty T c.args.character.now d in
-    let o = character-counted order value positive c.args.t.now.not_empty T c.args.character.now d p w c.args.e c.requires.exponent
-    c.requires.same_power
+    let o = character-counted order value positive c.args.t.now.not_empty T c.args.character.now d p w c.args.e c.requires.exponent c.requires.same_power
     (table-order-le c.args.t.now) (order c.in_ok-sum.sum) (c.in_ok-sum.ensures.order d.n small) in
-    let product : c.in_ok-whole_number.field-0 ≡ length c.args.powers.now.places.items * o.0 =
-    c.in_ok-whole_number.ensures (length c.args.powers.now.places.items * o.0) (c.in_ok-sum.ensures.value ∙ o.2) in
+    let product : c.in_ok-whole_number.field-0 ≡ length c.args.powers.now.places.items * o.0 = c.in_ok-whole_number.ensures (length c.args.powers.now.places.items * o.0) (c.in_ok-sum.ensures.value ∙ o.2) in
     let is : c.len.result ≡ length c.args.powers.now.places.items = search rules in
     subst (Occurs (d.representation.at p) (power (numbers d.n) (root_power d.n (d.n / T.order)) c.args.e))
     (sym (ap (λ u. c.in_ok-whole_number.field-0 / u) is ∙ Nat.div-eq_of_eq-mul_right w.is_order.positive product)) o.1

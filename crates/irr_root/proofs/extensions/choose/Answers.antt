@@ -1,8 +1,8 @@
 -- The family's own traces and the positions of its members.
-use Rattle.std.proofs.Common.{ℕ, ◌≡◌, refl, sym, ◌∙◌, ap, subst, ◌<◌, ◌≤◌, length, arith}
+use Rattle.std.proofs.Common.{◌≡◌, refl, sym, ◌∙◌, ap, subst, ◌<◌, ◌≤◌, length, arith}
 use Rattle.irr_algebra.specs.Matrix.{trace}
 use Rattle.irr_algebra.specs.Fin.{Fin}
-use Rattle.irr_rep.specs.Family.{HasShape, matrix_at}
+use Rattle.irr_rep.specs.Family.{HasShape}
 use Rattle.irr_rep.specs.Twisted.{phase_table, place_count}
 use Rattle.irr_char.specs.Characters.{IsRowOf}
 use Rattle.irr_root.specs.Choice.{AreChosen, IsChoice}
@@ -54,11 +54,15 @@ chosen_traces-requires-clause-choice g c =
     let shape = subst (λ e. HasShape M k e f.mats.items) (sym made.size) made.shape in
     let is = subst (IsRowOf {h = k} order value M (λ i. trace (D.at i))) (sym c.as_slice-row.ensures.value)
     (row-of step D fixed f made few c.in_ok-traces.traces.items (c.in_ok-traces.ensures M k shape)) in
-    let are = subst (ArePositionsIn c.args.members.now (place_count c.args.t.now)) (sym c.as_slice-list.ensures.value) c.in_ok-positions.ensures.positions in
-    let own = row_order order value M (λ (i : Fin k). trace (D.at i)) row is c.args.inner.now.not_empty refl c.index-row-0.result c.index-row-0.is c.in_ok-order.order.n
+    let are = subst (ArePositionsIn c.args.members.now (place_count c.args.t.now))
+    (sym c.as_slice-list.ensures.value) c.in_ok-positions.ensures.positions in
+    let own = row_order order value M (λ (i : Fin k). trace
+    (D.at i)) row is c.args.inner.now.not_empty refl c.index-row-0.result c.index-row-0.is c.in_ok-order.order.n
     c.order.result c.in_ok-order.ensures c.order.ensures in
-    subst (λ n. IsChoice order value n (phase_table c.args.t.now) (phase_table c.args.inner.now) c.args.members.now c.args.p c.args.g f.dim list row) (sym own)
-    (subst (λ e. IsChoice order value M (phase_table c.args.t.now) (phase_table c.args.inner.now) c.args.members.now c.args.p c.args.g e list row) (sym made.size)
+    subst (λ n. IsChoice order value n (phase_table c.args.t.now)
+    (phase_table c.args.inner.now) c.args.members.now c.args.p c.args.g f.dim list row) (sym own)
+    (subst (λ e. IsChoice order value M (phase_table c.args.t.now) (phase_table c.args.inner.now) c.args.members.now c.args.p c.args.g e list row)
+    (sym made.size)
     (choice-made step D fixed f made few list are row is))
 
 pub returns : goal.returns
@@ -74,12 +78,16 @@ returns g c M step d D fixed made =
     let shape = subst (λ e. HasShape M k e f.mats.items) (sym made.size) made.shape in
     let is = subst (IsRowOf {h = k} order value M (λ i. trace (D.at i))) (sym c.as_slice-row.ensures.value)
     (row-of step D fixed f made few c.in_ok-traces.traces.items (c.in_ok-traces.ensures M k shape)) in
-    let are = subst (ArePositionsIn c.args.members.now (place_count c.args.t.now)) (sym c.as_slice-list.ensures.value) c.in_ok-positions.ensures.positions in
-    let own = row_order order value M (λ (i : Fin k). trace (D.at i)) row is c.args.inner.now.not_empty refl c.index-row-0.result c.index-row-0.is c.in_ok-order.order.n
+    let are = subst (ArePositionsIn c.args.members.now (place_count c.args.t.now))
+    (sym c.as_slice-list.ensures.value) c.in_ok-positions.ensures.positions in
+    let own = row_order order value M (λ (i : Fin k). trace
+    (D.at i)) row is c.args.inner.now.not_empty refl c.index-row-0.result c.index-row-0.is c.in_ok-order.order.n
     c.order.result c.in_ok-order.ensures c.order.ensures in
-    let at_order = subst (λ n. (d : IsChoice order value n (phase_table c.args.t.now) (phase_table c.args.inner.now) c.args.members.now c.args.p c.args.g f.dim list row)
+    let at_order = subst (λ n. (d : IsChoice order value n (phase_table c.args.t.now)
+    (phase_table c.args.inner.now) c.args.members.now c.args.p c.args.g f.dim list row)
     → AreChosen d xs) own c.in_ok-chosen.ensures in
-    let at_size = subst (λ e. (d : IsChoice order value M (phase_table c.args.t.now) (phase_table c.args.inner.now) c.args.members.now c.args.p c.args.g e list row)
+    let at_size = subst (λ e. (d : IsChoice order value M (phase_table c.args.t.now)
+    (phase_table c.args.inner.now) c.args.members.now c.args.p c.args.g e list row)
     → AreChosen d xs) made.size at_order in
     let a = at_size (choice-made step D fixed f made few list are row is) in
     (a.trace_at, a.extension, a.is_row)

@@ -25,7 +25,8 @@ returns-then-p-eq2-clause-exponent c q e =
 pub returns-else-p-eq2-clause-place : goal.returns-else-p-eq2-clause-place
 returns-else-p-eq2-clause-place c q e =
     let T = phase_table c.args.t.now in
-    subst (λ k. c.turned_product.result.place ≡ to_nat (place_power T.start T.product q k)) (sym (three_of c.args.p c.requires.two_or_three c.if-p-eq2.false))
+    subst (λ k. c.turned_product.result.place ≡ to_nat (place_power T.start T.product q k)) (sym
+    (three_of c.args.p c.requires.two_or_three c.if-p-eq2.false))
     (c.turned_product.ensures.place q (T.product q q) e (sym (c.turned_product-square.ensures.place q q e e)) ∙ sym (ap to_nat (cube-place T q)))
 
 pub returns-else-p-eq2-clause-exponent : goal.returns-else-p-eq2-clause-exponent

@@ -5,8 +5,7 @@ use Rattle.std.proofs.Math.ListN.{length-append}
 use Rattle.irr_algebra.specs.Fin.{to_nat}
 use Rattle.irr_algebra.proofs.Indices.{from_nat, to_nat-from_nat}
 use Rattle.irr_rep.specs.Twisted.{phase_table, place_count}
-use Rattle.irr_root.proofs.Walks.{Walked, table-order-le, walk_place, walked-done, walked-exponent, walked-first, walked-length, walked-lt}
-use Rattle.irr_root.proofs.Walks.{walked-step}
+use Rattle.irr_root.proofs.Walks.{Walked, table-order-le, walk_place, walked-done, walked-exponent, walked-first, walked-length, walked-lt, walked-step}
 use Rattle.irr_root.proofs.powers.powers_of.Goals as goal
 
 fits_small : (a : ℕ) → a < 2 ^ 32 → Fits w32 a
@@ -15,8 +14,7 @@ fits_small a l = search rules
 pub loop-place-init : goal.loop-place-init
 loop-place-init c = λ p e.
     let T = phase_table c.args.t.now in
-    subst (λ xs. Walked T p xs c.push-2.new.self.items c.args.i 0)
-    (sym (c.in_ok-push.ensures.items ∙ ap (λ xs. xs ++ 0 ∷ []) c.new-places.ensures.items))
+    subst (λ xs. Walked T p xs c.push-2.new.self.items c.args.i 0) (sym (c.in_ok-push.ensures.items ∙ ap (λ xs. xs ++ 0 ∷ []) c.new-places.ensures.items))
     (subst (λ ys. Walked T p (0 ∷ []) ys c.args.i 0) (sym (c.in_ok-push-2.ensures.items ∙ ap (λ xs. xs ++ 0 ∷ []) c.new-exponents.ensures.items))
     (subst (λ k. Walked T p (0 ∷ []) (0 ∷ []) k 0) e (walked-first T p)))
 
@@ -44,12 +42,9 @@ loop-place-smaller c =
     let T = phase_table c.args.t.now in
     let p = from_nat (place_count c.args.t.now) c.args.i c.requires in
     let w = c.loop-place.invariant p (to_nat-from_nat (place_count c.args.t.now) c.args.i c.requires) in
-    let within : length (c.loop-place.places.items ++ c.loop-place.place ∷ []) ≤ T.order =
-    walked-length T p (walked-step T p w c.loop-place-test.true) in
-    let longer : length (c.loop-place.places.items ++ c.loop-place.place ∷ []) ≡ length c.loop-place.places.items + 1 =
-    length-append c.loop-place.places.items (c.loop-place.place ∷ []) in
-    let same : length c.push-in-loop-place.new.self.items ≡ length (c.loop-place.places.items ++ c.loop-place.place ∷ []) =
-    ap length c.in_ok-push-3.ensures.items in
+    let within : length (c.loop-place.places.items ++ c.loop-place.place ∷ []) ≤ T.order = walked-length T p (walked-step T p w c.loop-place-test.true) in
+    let longer : length (c.loop-place.places.items ++ c.loop-place.place ∷ []) ≡ length c.loop-place.places.items + 1 = length-append c.loop-place.places.items (c.loop-place.place ∷ []) in
+    let same : length c.push-in-loop-place.new.self.items ≡ length (c.loop-place.places.items ++ c.loop-place.place ∷ []) = ap length c.in_ok-push-3.ensures.items in
     omega (arith, within, longer, same)
 
 pub loop-place-preserved : goal.loop-place-preserved
@@ -57,15 +52,12 @@ loop-place-preserved c = λ p e.
     let T = phase_table c.args.t.now in
     let w = c.loop-place.invariant p e in
     let q = walk_place T p (length c.loop-place.places.items) in
-    subst (λ xs. Walked T p xs c.push-in-loop-place-2.new.self.items c.table-place.result (c.loop-place.exponent + c.phase-exponent.result))
-    (sym c.in_ok-push-3.ensures.items)
-    (subst (λ ys. Walked T p (c.loop-place.places.items ++ c.loop-place.place ∷ []) ys c.table-place.result
-    (c.loop-place.exponent + c.phase-exponent.result))
+    subst (λ xs. Walked T p xs c.push-in-loop-place-2.new.self.items c.table-place.result (c.loop-place.exponent + c.phase-exponent.result)) (sym c.in_ok-push-3.ensures.items)
+    (subst (λ ys. Walked T p (c.loop-place.places.items ++ c.loop-place.place ∷ []) ys c.table-place.result (c.loop-place.exponent + c.phase-exponent.result))
     (sym c.in_ok-push-4.ensures.items)
     (subst (λ k. Walked T p (c.loop-place.places.items ++ c.loop-place.place ∷ []) (c.loop-place.exponents.items ++ c.loop-place.exponent ∷ []) k
     (c.loop-place.exponent + c.phase-exponent.result)) (sym (c.table-place.ensures.product p q e (sym w.next_place)))
-    (subst (λ k. Walked T p (c.loop-place.places.items ++ c.loop-place.place ∷ []) (c.loop-place.exponents.items ++ c.loop-place.exponent ∷ [])
-    (to_nat (T.product p q))
+    (subst (λ k. Walked T p (c.loop-place.places.items ++ c.loop-place.place ∷ []) (c.loop-place.exponents.items ++ c.loop-place.exponent ∷ []) (to_nat (T.product p q))
     (c.loop-place.exponent + k)) (sym (c.phase-exponent.ensures.exponent p q e (sym w.next_place)))
     (walked-step T p w c.loop-place-test.true))))
 

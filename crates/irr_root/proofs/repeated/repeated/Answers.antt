@@ -23,8 +23,7 @@ loop-a-preserved c =
     let so_far = repetitions c.args.first c.args.step (slice_index c.args.times.now) c.loop-a.a in
     let number = c.args.first + c.loop-a.a * c.args.step in
     let done : c.loop.counter ≡ slice_index c.args.times.now c.loop-a.a = omega (arith, c.loop.auto.counter-end, c.loop-test.false) in
-    c.loop.invariant ∙ ap (λ k. so_far ++ replicate k number) done
-    ∙ sym (repetitions-add_one c.args.first c.args.step (slice_index c.args.times.now) c.loop-a.a)
+    c.loop.invariant ∙ ap (λ k. so_far ++ replicate k number) done ∙ sym (repetitions-add_one c.args.first c.args.step (slice_index c.args.times.now) c.loop-a.a)
 
 pub returns : goal.returns
 returns c =

@@ -14,7 +14,8 @@ shifted-requires-clause-below g c =
     let lt : place < length c.args.positions.now = subst (λ l. place < l) (sym c.requires.all_placed) c.turned_power-power.ensures.within in
     let below = c.requires.positions place 0 lt in
     let p = from_nat (place_count c.args.inner.now) (slice_index c.args.positions.now place) below in
-    let own = c.in_ok-exponents.ensures c.requires.character p (to_nat-from_nat (place_count c.args.inner.now) (slice_index c.args.positions.now place) below) in
+    let own = c.in_ok-exponents.ensures c.requires.character p (to_nat-from_nat (place_count c.args.inner.now)
+    (slice_index c.args.positions.now place) below) in
     subst (All (λ e. e < c.order.result)) (sym c.as_slice.ensures.value)
     (subst (λ N. All (λ e. e < N) c.in_ok-exponents.exponents.items) (c.requires.same_order ∙ sym c.order.ensures.order) own.below)
 
@@ -31,7 +32,8 @@ returns-clause-few g c =
     let lt : place < length c.args.positions.now = subst (λ l. place < l) (sym c.requires.all_placed) c.turned_power-power.ensures.within in
     let below = c.requires.positions place 0 lt in
     let p = from_nat (place_count c.args.inner.now) (slice_index c.args.positions.now place) below in
-    let own = c.in_ok-exponents.ensures c.requires.character p (to_nat-from_nat (place_count c.args.inner.now) (slice_index c.args.positions.now place) below) in
+    let own = c.in_ok-exponents.ensures c.requires.character p (to_nat-from_nat (place_count c.args.inner.now)
+    (slice_index c.args.positions.now place) below) in
     IfOk-weaker c.shifted.result (λ es. es.items ≡ map (λ e. (e + c.turned_power-power.result.exponent) % c.order.result) c.as_slice.result.now) _
     (λ es is. more-few c.order.result c.turned_power-power.result.exponent c.requires.character.size c.as_slice.result.now es.items is
     (ap length c.as_slice.ensures.value ∙ own.count) c.requires.character.few) c.shifted.ensures
@@ -41,10 +43,20 @@ returns-clause-exponents g c members g' M step numbered d D traces n at =
     let T = phase_table c.args.t.now in
     let y = c.turned_power-power.result.exponent in
     let top = step-top step n in
-    let own = c.in_ok-exponents.ensures (record { n = M; divides = step.inner_divides; size = d; few = traces.few; representation = D; is_row = traces.is_row }) top.0
-    (sym (ap (slice_index c.args.positions.now) (c.turned_power-power.ensures.place (coset_place step n) at ∙ sym (ap to_nat (top-power step n top.0 top.1))) ∙ numbered top.0)) in
+    let own = c.in_ok-exponents.ensures (record {
+      n = M;
+      divides = step.inner_divides;
+      size = d;
+      few = traces.few;
+      representation = D;
+      is_row =
+          traces.is_row;
+    }) top.0
+    (sym (ap (slice_index c.args.positions.now) (c.turned_power-power.ensures.place (coset_place step n) at
+    ∙ sym (ap to_nat (top-power step n top.0 top.1))) ∙ numbered top.0)) in
     IfOk-weaker c.shifted.result (λ es. es.items ≡ map (λ e. (e + c.turned_power-power.result.exponent) % c.order.result) c.as_slice.result.now) _
     (λ es is. subst (ArePowerExponents step D n)
     (sym (is ∙ ap (map (λ e. (e + c.turned_power-power.result.exponent) % c.order.result)) c.as_slice.ensures.value
     ∙ ap (λ m. map (λ e. (e + c.turned_power-power.result.exponent) % m) c.in_ok-exponents.exponents.items) c.order.ensures.order))
-    (step-exponents step D n top.0 top.1 y (c.turned_power-power.ensures.exponent (coset_place step n) at) c.in_ok-exponents.exponents.items own)) c.shifted.ensures
+    (step-exponents step D n top.0 top.1 y (c.turned_power-power.ensures.exponent
+    (coset_place step n) at) c.in_ok-exponents.exponents.items own)) c.shifted.ensures

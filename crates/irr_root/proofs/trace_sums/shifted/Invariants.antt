@@ -1,5 +1,5 @@
 -- The sums so far.
-use Rattle.std.proofs.Common.{◌≡◌, ◌≤◌, ◌+◌, ◌%◌, length, map, take}
+use Rattle.std.proofs.Common.{◌≡◌, ◌+◌, ◌%◌, map, take}
 use Rattle.irr_root.proofs.trace_sums.shifted.Given as goal
 
 abbrev pub invariant-loop-e : goal.invariant-loop-e

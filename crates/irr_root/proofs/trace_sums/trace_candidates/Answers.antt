@@ -1,5 +1,5 @@
 -- The trace is a sum of roots, and all such sums are among the candidates.
-use Rattle.std.proofs.Common.{◌≡◌, ◌<◌, ◌≤◌, ◌/◌, ◌∙◌, sym, ap, subst, length, map, All}
+use Rattle.std.proofs.Common.{◌<◌, ◌/◌, sym, subst, map, All}
 use Rattle.std.proofs.lemmas.Result.{IfOk-weaker}
 use Rattle.irr_number.specs.Number.{numbers, root_power}
 use Rattle.irr_rep.specs.Twisted.{phase_table}
@@ -18,5 +18,6 @@ returns-clause-traces g c members g' M step numbered d D traces is s extension n
     (subst (All (λ e. e < T.order)) same c.in_ok-exponents.ensures.below)
     (subst (ArePowerExponents step D n) same (c.in_ok-exponents.ensures.exponents members g' M step numbered d D traces n at)) in
     IfOk-weaker c.root_sums.result _ _
-    (λ xs all. subst (λ k. HasRootSums (numbers k) (root_power k (k / N)) c.args.p (N / c.args.p) c.as_slice.result.now (map (value k) xs.items)) (sym is) all (s n) roots)
+    (λ xs all. subst (λ k. HasRootSums (numbers k) (root_power k (k / N)) c.args.p (N / c.args.p) c.as_slice.result.now (map (value k) xs.items))
+    (sym is) all (s n) roots)
     c.root_sums.ensures.all

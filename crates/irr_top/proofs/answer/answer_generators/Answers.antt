@@ -16,11 +16,14 @@ pub close-requires-clause-unimodular : goal.close-requires-clause-unimodular
 close-requires-clause-unimodular g c = readable_unimodular c.args.gens.now c.requires.readable
 
 pub answer_group-requires-clause-group : goal.answer_group-requires-clause-group
-answer_group-requires-clause-group g c = (c.args.gens.now, record { readable = c.requires.readable; stands = c.in-Ok.ensures.group })
+answer_group-requires-clause-group g c = (
+  c.args.gens.now,
+  record { readable = c.requires.readable; stands = c.in-Ok.ensures.group; phase = c.in-Ok.ensures.phase },
+)
 
 pub returns-in-Ok : goal.returns-in-Ok
 returns-in-Ok g c = λ words bytes a. c.answer_group.ensures words bytes c.args.gens.now a c.in-Ok.ensures.accepted
-    (record { readable = c.requires.readable; stands = c.in-Ok.ensures.group })
+    (record { readable = c.requires.readable; stands = c.in-Ok.ensures.group; phase = c.in-Ok.ensures.phase })
 
 pub returns-in-Err-Rotations : goal.returns-in-Err-Rotations
 returns-in-Err-Rotations g c = λ words bytes a. serves (record {

@@ -1,0 +1,6 @@
+-- The items so far are in slots.
+use Rattle.std.proofs.Common.{◌≡◌, map, Some}
+use Rattle.irr_climb.proofs.order.slots_of.Given as goal
+
+abbrev pub invariant-loop-item : goal.invariant-loop-item
+invariant-loop-item g l = l.slots.items ≡ map Some l.yielded

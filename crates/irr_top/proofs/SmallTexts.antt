@@ -1,0 +1,97 @@
+-- The text of a report at a wave vector, from that on the table of the little group of its reduced wave vector.
+--   small_text_of, no_report_of     a report, or why there is none
+--   text_from, refusal_from         the same of an answer
+--   order_there                     the order
+use Rattle.std.proofs.Common.{ap, subst, refl, ℕ, ◌≤◌, List, Vec, Global, Result, Ok, Err, IfOk, IfErr}
+use Rattle.irr_algebra.specs.Fin.{Fin}
+use Rattle.irr_space.specs.Operation.{Operation, WaveVector}
+use Rattle.irr_space.specs.Reciprocal.{IsOrder, IsReduced}
+use Rattle.irr_space.specs.Reciprocal.Sign.{minus}
+use Rattle.irr_space.specs.CanonicalOperation.{IsNumbering}
+use Rattle.irr_space.specs.Star.{IsInLittleGroup}
+use Rattle.irr_space.specs.PhaseTable.{PhaseTable, IsTableOf}
+use Rattle.irr_text.specs.ReportText.{list_report}
+use Rattle.irr_seitz.specs.PhaseMeaning.{sign_of}
+use Rattle.irr_seitz.specs.declared.op.Op.{Op}
+use Rattle.irr_cocycle.proofs.Reciprocals.{equivalent_sym}
+use Rattle.irr_close.specs.StandsFor.{stands_for}
+use Rattle.irr_close.specs.declared.group.Group.{Group}
+use Rattle.irr_little.specs.Table.{IsLittleTable, listed_operations}
+use Rattle.irr_top.specs.Asked.{order_limit}
+use Rattle.irr_top.specs.GroupOf.{IsGroupOf, group_of}
+use Rattle.irr_top.specs.LittleTable.{IsTableAt}
+use Rattle.irr_top.specs.SmallText.{IsListText, IsTableRefusal, IsSmallText, IsNoReport}
+use Rattle.irr_top.specs.declared.small_text.NoReport.{NoReport}
+use Rattle.irr_top.specs.declared.small_text.NoReport.TheVariants.{OrderTooLarge, Unchained, Memory}
+use Rattle.irr_top.proofs.Along.{order_along, numbering_along, table_along}
+use Rattle.irr_top.proofs.Groups.{form_of, is_group, order_at}
+use Rattle.irr_top.proofs.Members.{some_item}
+
+module _ (group : Group) (gens : List Op) (is : IsGroupOf group gens) (k w : WaveVector) (reduced : IsReduced (group_of gens) k w) where
+  pub order_there : (n : ℕ) → IsOrder (stands_for group) w n → IsOrder (group_of gens) k n
+  order_there n o = order_at (group_of gens) (is_group group gens is) w k (equivalent_sym (group_of gens) w k reduced.equivalent) n
+      (order_along (stands_for group) (group_of gens) is.stands w n o)
+
+  module _ (xs : List ℕ) {h : ℕ} (T : PhaseTable h) (table : IsLittleTable group w xs T) (within : T.order ≤ order_limit) where
+    pub some_operation : Op
+    some_operation = some_item group.ops.items 0 (form_of group).nonempty
+
+    abbrev ops : Fin h → Operation
+    ops = listed_operations group h xs some_operation
+
+    numbering : IsNumbering (group_of gens) (IsInLittleGroup (group_of gens) w) ops
+    numbering = numbering_along (stands_for group) (group_of gens) is.stands w ops (table.numbering some_operation)
+
+    is_table : IsTableOf minus (group_of gens) w ops T
+    is_table = subst (λ s. IsTableOf s (group_of gens) w ops T) (ap sign_of is.phase)
+        (table_along (stands_for group) (group_of gens) is.stands (sign_of group.phase) w ops T (table.table some_operation))
+
+    table_at : IsTableAt minus (group_of gens) k T
+    table_at = record { wave = w; reduced = reduced; operation = ops; numbering = numbering; is_table = is_table }
+
+    is_order : IsOrder (group_of gens) k T.order
+    is_order = order_there T.order (table.table some_operation).is_order
+
+    pub small_text_of : (text : List ℕ) → ((d : Op) → IsListText w (listed_operations group h xs d) T text) → IsSmallText gens k text
+    small_text_of text all = let t = all some_operation in record {
+      order = T.order;
+      is_order = is_order;
+      within = within;
+      content = list_report w ops T t.representations;
+      is_report = record {
+        wave = w;
+        reduced = reduced;
+        places = h;
+        operation = ops;
+        numbering = numbering;
+        table = T;
+        is_table = is_table;
+        representations = t.representations;
+        complete = t.complete;
+        in_order = t.in_order;
+        content = refl;
+      };
+      is_text = t.is_text;
+    }
+
+    pub no_report_of : (e : NoReport) → IsTableRefusal T e → IsNoReport gens k e
+    no_report_of (OrderTooLarge n) r = absurd r
+    no_report_of (Unchained members) r = record {
+      order = T.order;
+      is_order = is_order;
+      within = within;
+      places = h;
+      table = T;
+      is_table = table_at;
+      is_unchained = r;
+    }
+    no_report_of Memory r = r
+
+    pub text_from : (r : Result (Vec ℕ Global) NoReport) → ((d : Op) → IfOk r (λ text. IsListText w (listed_operations group h xs d) T text.items))
+        → IfOk r (λ text. IsSmallText gens k text.items)
+    text_from (Ok text) all = small_text_of text.items all
+    text_from (Err e) all = tt
+
+    pub refusal_from : (r : Result (Vec ℕ Global) NoReport) → IfErr r (IsTableRefusal T) → IfErr r (IsNoReport gens k)
+    refusal_from (Ok text) e = tt
+    refusal_from (Err e) refused = no_report_of e refused
