@@ -11,3 +11,4 @@ pub mod CentringLists
 pub mod WaveRecogniser
 pub mod WaveAnswers
 pub mod PrintedWaves
+pub mod OneWave

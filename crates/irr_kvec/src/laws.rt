@@ -2,7 +2,7 @@
 ghost use Rattle.irr_text.specs.WaveText.{wave_text, IsWithinLimits};
 ghost use Rattle.irr_token.specs.declared.faults.TheConstants.{DENOMINATOR_LIMIT};
 ghost use Rattle.irr_kvec.specs.WaveFault.{IsTextOf};
-ghost use Rattle.std.specs.Prelude.{ℕ, ◌↔◌, ◌≤◌, List, length};
+ghost use Rattle.std.specs.Prelude.{ℕ, ◌≡◌, ◌↔◌, ◌≤◌, List, length};
 ghost use Rattle.irr_space.specs.Operation.{Operation, WaveVector};
 ghost use Rattle.irr_space.specs.SpaceGroup.{Generated};
 ghost use Rattle.irr_space.specs.Reciprocal.{AreEquivalent, IsReduced, IsPeriod};
@@ -29,4 +29,9 @@ pub fn wave_vectors_of_group()
 /// no fault: so it is read again as the same wave vector.
 pub fn printed_waves_are_read()
     ensures { (k : WaveVector) → IsWithinLimits DENOMINATOR_LIMIT k → IsTextOf (wave_text k) k }
+{}
+
+/// A text writes one wave vector at most.
+pub fn one_wave_vector_is_written()
+    ensures { (text : List ℕ) (k l : WaveVector) → IsTextOf text k → IsTextOf text l → k ≡ l }
 {}

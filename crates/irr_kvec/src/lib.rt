@@ -13,7 +13,9 @@ mod wave;
 
 pub use action::act;
 pub use equivalence::equivalent;
-pub use laws::{centrings_of_group, printed_waves_are_read, wave_vectors_of_group};
+pub use laws::{
+    centrings_of_group, one_wave_vector_is_written, printed_waves_are_read, wave_vectors_of_group,
+};
 pub use periods::period;
 pub use read::{WaveError, read_wave};
 pub use reduction::reduced;

@@ -4,3 +4,4 @@ pub mod Signs
 pub mod Narrowing
 pub mod FirstFaults
 pub mod PrintedQuotients
+pub mod SpelledOnce

@@ -1,6 +1,7 @@
 -- How a text spells tokens.
 --   IsBehind front at P text   the text is front, blanks, and a rest which begins at its place as P says, where front begins at the place at
 --   AreSpelled at ts text      from the place at on, the text is the tokens ts, each with blanks behind it or none
+--   NumbersApart ts            no number of the tokens ts stands right behind another
 --   EndsInNoBlank text         the last byte of the text, if it has one, is no blank
 use Rattle.std.specs.Prelude.{ℕ, ◌≡◌, ◌≢◌, ◌+◌, List, [], ◌∷◌, ◌++◌, length}
 use Rattle.std.specs.Str.Parse.{IsNumeral}
@@ -25,3 +26,10 @@ abbrev pub EndsInNoBlank : List ℕ → Type 0
 EndsInNoBlank [] = Unit {0}
 EndsInNoBlank (c ∷ []) = kind_of c ≢ Blank
 EndsInNoBlank (c ∷ d ∷ cs) = EndsInNoBlank (d ∷ cs)
+
+abbrev pub NumbersApart : List Token → Type 0
+NumbersApart [] = Unit {0}
+NumbersApart (number n ∷ []) = Unit {0}
+NumbersApart (number n ∷ number m ∷ ts) = ⊥
+NumbersApart (number n ∷ mark c ∷ ts) = NumbersApart ts
+NumbersApart (mark c ∷ ts) = NumbersApart ts
