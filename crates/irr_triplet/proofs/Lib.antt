@@ -5,3 +5,8 @@ pub mod ConstantReading
 pub mod ComponentReading
 pub mod TripletReading
 pub mod UniqueTriplets
+pub mod UsedSlots
+pub mod TripletScanner
+pub mod TripletFollows
+pub mod TripletEnds
+pub mod TripletRecogniser

@@ -3,3 +3,5 @@ pub mod Terms
 pub mod Shapes
 pub mod Readable
 pub mod Rows
+pub mod WrittenTriplet
+pub mod TripletFront

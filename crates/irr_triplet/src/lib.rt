@@ -6,6 +6,7 @@ mod laws;
 mod print;
 mod printed;
 mod read;
+mod shape;
 mod term;
 
 pub use laws::unique_triplets;
