@@ -3,6 +3,7 @@
 --   printed_end at a b          the place behind it
 --   printed-spelled             its text spells it
 --   printed-value               its value is a over b
+--   printed-unsigned, printed-numerator, printed-denominator     the parts of a fraction that is not negative
 --   printed-zero, printed-within     its numbers
 --   NoBlanks cs                 no byte of cs is a blank
 use Rattle.std.proofs.Common.{◌≡◌, ◌≢◌, refl, sym, ◌∙◌, ap, ap₂, subst, ℕ, suc, ◌<◌, ◌≤◌, ◌+◌, ◌^◌, ℤ, pos, negsuc, neg_ℤ, Bool, true, false, List, [], ◌∷◌, ◌++◌, length, append_assoc, append-nil, Option, None, Some, nat_eq, if◌then◌else◌, arith}
@@ -15,7 +16,7 @@ use Rattle.irr_rational.specs.Rational.{ratio}
 use Rattle.irr_text.specs.NumberText.{fraction_text}
 use Rattle.irr_token.specs.declared.kind.Kind.TheVariants.{Blank, Digit, Mark}
 use Rattle.irr_token.specs.Kinds.{kind_of}
-use Rattle.irr_token.specs.Token.{PlacedNumber, Token}
+use Rattle.irr_token.specs.Token.{PlacedNumber, Token, value_of}
 use Rattle.irr_token.specs.Token.Token.{number}
 use Rattle.irr_token.specs.Spelling.{AreSpelled, EndsInNoBlank}
 use Rattle.irr_token.specs.Quotient.{WrittenQuotient, over_tokens, quotient_tokens, quotient_value, denominator_value}
@@ -112,6 +113,20 @@ printed-value at (negsuc n) b ha hb = ap₂ (λ (m d : ℕ). ratio (neg_of m) d)
   where
     neg_of : ℕ → ℤ
     neg_of m = neg_ℤ (pos m)
+
+-- without a sign
+
+pub printed-unsigned : (at a b : ℕ) → (printed_quotient at (pos a) b).sign ≡ None
+unfolding printed_quotient
+printed-unsigned at a b = refl
+
+pub printed-numerator : (at a b : ℕ) → a ≤ 100000 → value_of (printed_quotient at (pos a) b).numerator ≡ a
+unfolding printed_quotient
+printed-numerator at a b h = number-value a (omega arith)
+
+pub printed-denominator : (at a b : ℕ) → b ≤ 100000 → denominator_value (printed_quotient at (pos a) b).denominator ≡ b
+unfolding printed_quotient
+printed-denominator at a b h = over-value (is_one b) (at + length (decimal a) + 0) b refl (omega arith)
 
 over-zero : (t : Bool) (p b : ℕ) → 0 < b → b < 2 ^ 64 → AreNotZero (present (over_of t p b))
 unfolding over_of

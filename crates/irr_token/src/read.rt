@@ -1,5 +1,5 @@
 // Reading of tokens, and of fractions as they are written.
-ghost use Rattle.std.specs.Prelude.{ℕ, ◌≡◌, ◌≢◌, ◌+◌, ◌<◌, ◌≤◌, ◌^◌, ◌↔◌, Bool, List, [], ◌∷◌, ◌++◌, length, take, drop, Option, IsTrue, IfSome};
+ghost use Rattle.std.specs.Prelude.{ℕ, ◌≡◌, ◌≢◌, ◌+◌, ◌<◌, ◌≤◌, ◌^◌, ◌↔◌, ◌⊎◌, Bool, List, [], ◌∷◌, ◌++◌, length, take, drop, Option, IsTrue, IfSome};
 ghost use Rattle.std.specs.Option.{option_map};
 ghost use Rattle.std.specs.Str.Parse.{AllDigits};
 ghost use Rattle.irr_token.specs.Kinds.{AreBlanks};
@@ -62,6 +62,7 @@ pub fn behind<'a>(rest: Rest<'a>, count: usize) -> Rest<'a>
     requires within { count ≤ length rest.text.now }
     requires fits { rest.place + length rest.text.now < 2 ^ 64 }
     ensures same { result.place + length result.text.now ≡ rest.entry.place + length rest.entry.text.now }
+    ensures forward { rest.entry.place + count ≤ result.place }
     ensures rest { (front blanks tail : List ℕ) → length front ≡ count → AreBlanks blanks → ¬ (BeginsWithBlank tail)
         → rest.entry.text.now ≡ front ++ (blanks ++ tail) → (result.text.now ≡ tail) × (result.place ≡ rest.entry.place + length front + length blanks) }
 {
@@ -79,6 +80,7 @@ pub fn behind_mark<'a>(rest: Rest<'a>) -> Rest<'a>
     requires some { 0 < length rest.text.now }
     requires fits { rest.place + length rest.text.now < 2 ^ 64 }
     ensures same { result.place + length result.text.now ≡ rest.entry.place + length rest.entry.text.now }
+    ensures forward { rest.entry.place < result.place }
     ensures rest { (c : ℕ) (ts : List Token) → AreSpelled rest.entry.place (mark c ∷ ts) rest.entry.text.now → AreSpelled result.place ts result.text.now }
 {
     behind(rest, 1)
@@ -88,6 +90,7 @@ pub fn behind_mark<'a>(rest: Rest<'a>) -> Rest<'a>
 pub fn front_number<'a>(rest: Rest<'a>) -> (Number<'a>, Rest<'a>)
     requires fits { rest.place + length rest.text.now < 2 ^ 64 }
     ensures same { result.1.place + length result.1.text.now ≡ rest.entry.place + length rest.entry.text.now }
+    ensures forward { rest.entry.place ≤ result.1.place }
     ensures digits { AllDigits 10 result.0.digits.now }
     ensures number { (n : PlacedNumber) (ts : List Token) → IsBehindNumber ts → AreSpelled rest.entry.place (number n ∷ ts) rest.entry.text.now
         → (placed_number result.0 ≡ n) × AreSpelled result.1.place ts result.1.text.now }
@@ -112,6 +115,8 @@ pub fn begins_with(text: &[u8], byte: u8) -> bool
 fn sign<'a>(rest: Rest<'a>) -> (bool, Rest<'a>)
     requires fits { rest.place + length rest.text.now < 2 ^ 64 }
     ensures same { result.1.place + length result.1.text.now ≡ rest.entry.place + length rest.entry.text.now }
+    ensures forward { rest.entry.place ≤ result.1.place }
+    ensures further { BeginsWith 43 rest.entry.text.now ⊎ BeginsWith 45 rest.entry.text.now → rest.entry.place < result.1.place }
     ensures sign { (s : Option Bool) (n : PlacedNumber) (ts : List Token) → AreSpelled rest.entry.place (sign_tokens s ++ (number n ∷ ts)) rest.entry.text.now
         → (result.0 ≡ is_negative s) × AreSpelled result.1.place (number n ∷ ts) result.1.text.now }
 {
@@ -128,6 +133,7 @@ fn sign<'a>(rest: Rest<'a>) -> (bool, Rest<'a>)
 fn denominator<'a>(rest: Rest<'a>) -> (Option<Number<'a>>, Rest<'a>)
     requires fits { rest.place + length rest.text.now < 2 ^ 64 }
     ensures same { result.1.place + length result.1.text.now ≡ rest.entry.place + length rest.entry.text.now }
+    ensures forward { rest.entry.place ≤ result.1.place }
     ensures digits { IfSome (option_map placed_number result.0) (λ n. AllDigits 10 n.digits) }
     ensures denominator { (d : Option PlacedNumber) (ts : List Token) → IsBehindQuotient ts → AreSpelled rest.entry.place (over_tokens d ++ ts) rest.entry.text.now
         → (option_map placed_number result.0 ≡ d) × AreSpelled result.1.place ts result.1.text.now }
@@ -143,6 +149,8 @@ fn denominator<'a>(rest: Rest<'a>) -> (Option<Number<'a>>, Rest<'a>)
 pub fn front_quotient<'a>(rest: Rest<'a>) -> (Quotient<'a>, Rest<'a>)
     requires fits { rest.place + length rest.text.now < 2 ^ 64 }
     ensures same { result.1.place + length result.1.text.now ≡ rest.entry.place + length rest.entry.text.now }
+    ensures forward { rest.entry.place ≤ result.1.place }
+    ensures further { BeginsWith 43 rest.entry.text.now ⊎ BeginsWith 45 rest.entry.text.now → rest.entry.place < result.1.place }
     ensures digits { HasDigits result.0 }
     ensures quotient { (q : WrittenQuotient) (ts : List Token) → IsBehindQuotient ts → AreSpelled rest.entry.place (quotient_tokens q ++ ts) rest.entry.text.now
         → IsReadAs result.0 q × AreSpelled result.1.place ts result.1.text.now }

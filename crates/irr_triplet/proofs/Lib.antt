@@ -5,8 +5,13 @@ pub mod ConstantReading
 pub mod ComponentReading
 pub mod TripletReading
 pub mod UniqueTriplets
+pub mod TermTokens
+pub mod SlotReading
 pub mod UsedSlots
 pub mod TripletScanner
 pub mod TripletFollows
 pub mod TripletEnds
 pub mod TripletRecogniser
+pub mod TripletParting
+pub mod TripletValues
+pub mod PrintedTriplets

@@ -5,3 +5,6 @@ pub mod Readable
 pub mod Rows
 pub mod WrittenTriplet
 pub mod TripletFront
+pub mod TripletFault
+pub mod WrittenTerms
+pub mod TripletParts

@@ -6,12 +6,17 @@ mod laws;
 mod print;
 mod printed;
 mod read;
+mod reading;
 mod shape;
+mod slots;
 mod term;
+mod values;
+mod written;
 
-pub use laws::unique_triplets;
+pub use laws::{printed_triplets_are_read, unique_triplets};
 pub use print::print_triplet;
 pub use printed::printed_triplet;
+pub use reading::{COEFFICIENT_LIMIT, TripletError, read_triplet};
 
 #[cfg(test)]
 mod tests;

@@ -1,0 +1,5 @@
+use Rattle.irr_triplet.proofs.TripletParting.{three_beyond}
+use Rattle.irr_triplet.proofs.reading.first_beyond.Goals as goal
+
+pub returns : goal.returns
+returns c = three_beyond c.args.parts.now c.or-2.result c.or.result c.or.ensures c.or-2.ensures
