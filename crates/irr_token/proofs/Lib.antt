@@ -5,3 +5,4 @@ pub mod Narrowing
 pub mod FirstFaults
 pub mod PrintedQuotients
 pub mod SpelledOnce
+pub mod OneFault

@@ -15,3 +15,5 @@ pub mod TripletRecogniser
 pub mod TripletParting
 pub mod TripletValues
 pub mod PrintedTriplets
+pub mod OneTriplet
+pub mod OneFault

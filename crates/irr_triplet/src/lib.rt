@@ -1,4 +1,4 @@
-//! Coordinate triplets: the printed form of an operation.
+//! Coordinate triplets: the texts of an operation, and its printed form.
 #![tactic(auto)]
 
 mod component;
@@ -13,7 +13,7 @@ mod term;
 mod values;
 mod written;
 
-pub use laws::{printed_triplets_are_read, unique_triplets};
+pub use laws::{one_operation_is_written, printed_triplets_are_read, unique_triplets};
 pub use print::print_triplet;
 pub use printed::printed_triplet;
 pub use reading::{COEFFICIENT_LIMIT, TripletError, read_triplet};
