@@ -5,10 +5,13 @@
 --   ratio_is                 d over h
 --   matrix_is                d over h times the sum of the terms is the matrix
 --   member_within            sizes of the matrices at the members
+--   term_few, sum_few, total_few      of the terms and of sums of them, from those of the matrices at the members
 --   term_within, sum_within, total_within, extension_within, extension_sized      of the terms, of sums of them, and of the extension
+--   over_quotient, extension_sharp    sharp sizes of the extension
 use Rattle.std.proofs.Common.{◌≡◌, sym, ◌∙◌, ap, ap₂, subst, ℕ, ◌-◌, ◌*◌, ◌/◌, ◌%◌, ◌<◌, ◌≤◌, ◌⊎◌, inl, inr, arith}
 use native.Mathlib.Nat as Nat
 use Rattle.std.specs.Int.{◌∣◌}
+use Rattle.std.proofs.lemmas.Bool.{cases_lt}
 use mathlib.Core.Path.{fun_ext}
 use Rattle.irr_algebra.specs.Ring.{whole}
 use Rattle.irr_algebra.specs.Fin.{Fin}
@@ -20,6 +23,7 @@ use Rattle.irr_algebra.proofs.Whole.{whole-mul}
 use Rattle.irr_number.specs.Number.{Number, numbers, root_power}
 use Rattle.irr_number.proofs.Lifts.{lift-root_power}
 use Rattle.irr_number.proofs.NumberField.{number_field}
+use Rattle.irr_number.proofs.Primes.{cofactor}
 use Rattle.irr_number.proofs.RootPowers.{root_power-mod, root_power-mul}
 use Rattle.irr_number.specs.Lift.{lift}
 use Rattle.irr_theory.specs.FactorSystem.{Representation}
@@ -41,10 +45,11 @@ use Rattle.irr_rep.proofs.TraceRoots.{trace-IsRootSum}
 use Rattle.irr_climb.specs.declared.step.Step.{Step}
 use Rattle.irr_climb.specs.Extensions.{term_exponent, trace_factor, trace_term}
 use Rattle.irr_climb.specs.Families.{IsRead}
-use Rattle.irr_climb.specs.Sizes.{IsSized, size_bound}
+use Rattle.irr_climb.specs.Sizes.{AreFew, IsSharplySized, IsSized, size_bound}
 use Rattle.irr_climb.specs.Steps.{IsFixedFamily, IsStep, large, small}
 use Rattle.irr_climb.proofs.ExtensionSizes.{ratio_powers, size_grows, square_bound}
 use Rattle.irr_climb.proofs.ExtensionSums.{first_all, first_terms, first_within}
+use Rattle.irr_climb.proofs.SharpSizes.{factor_positive, few_extension, few_one, one_over, read_within, sharply_sized, single_within, small_extension, small_one}
 
 -- z^x for z of the order N, among the numbers of the order M
 pub root_over : (N M : ℕ) (positive : 0 < N) (v : N ∣ M) (x : ℕ) → root_power M (x % N * (M / N)) ≡ (lift N M positive v).map (root_power N x)
@@ -117,6 +122,27 @@ module _ {M : ℕ} {step : Step} (is : IsStep M step) where
         mul_cancel F w y ((numbers M).mul v (F.inverse w)) n
         (e ∙ sym (ap ((numbers M).mul w) ((numbers M).mul_comm v (F.inverse w)) ∙ mul-inverse_left F w v n))
 
+-- matrices at the members whose entries are sums of s powers over den
+module _ {M : ℕ} {step : Step} (is : IsStep M step) {d : ℕ} (D : Representation (small is) d) (E : Representation (large is) d) (s den : ℕ)
+    (within : (i : Fin (place_count step.inner)) → IsWithin M s den (D.at i)) where
+  term_few : (x : Fin (place_count step.outer)) (m : Fin (place_count step.inner)) → IsWithin M (d * s) den (trace_term is D E x m)
+  unfolding trace_term
+  term_few x m =
+      let w = within ((phase_table step.inner).opposite m) in
+      let p : 1 * d ≡ d = omega arith in
+      let q : 1 * 1 * den ≡ den = omega arith in
+      subst (λ k. IsWithin M (k * s) den (trace_term is D E x m)) p
+      (subst (λ k. IsWithin M (1 * d * s) k (trace_term is D E x m)) q
+      (within-scale M d d (1 * d) (1 * 1) s den (trace_factor is E x m) (D.at ((phase_table step.inner).opposite m)) (factor_powers is D E x m) w))
+
+  sum_few : (x : Fin (place_count step.outer)) (k : ℕ) → ((q : ℕ) → q < k → q < place_count step.inner)
+      → IsWithin M (k * (d * s)) den (first_terms M (trace_term is D E x) k)
+  sum_few x k below = first_within M (trace_term is D E x) (d * s) den (term_few x (phase_table step.inner).start).positive (term_few x) k below
+
+  total_few : (x : Fin (place_count step.outer))
+      → IsWithin M (place_count step.inner * (d * s)) den (total (place_count step.inner) (trace_term is D E x))
+  total_few x = subst (IsWithin M (place_count step.inner * (d * s)) den) (first_all M (trace_term is D E x)) (sum_few x (place_count step.inner) (λ q l. l))
+
 module _ {S : Type 0} {G : Ghosts S} {M : ℕ} {step : Step} (is : IsStep M step) {d : ℕ} (D : Representation (small is) d) (E : Representation
     (large is) d)
     {f : Family S G} (fixed : IsFixedFamily is D f) (at-member : (n : Fin (place_count step.inner)) → E.at (is.part.place n) ≡ D.at n) where
@@ -142,25 +168,15 @@ module _ {S : Type 0} {G : Ghosts S} {M : ℕ} {step : Step} (is : IsStep M step
 
   pub term_within : (x : Fin (place_count step.outer)) (m : Fin (place_count step.inner)) → IsWithin M (d * (bound * bound)) denominator
       (trace_term is D E x m)
-  unfolding trace_term
-  term_within x m =
-      let w = member_within ((phase_table step.inner).opposite m) in
-      let p : 1 * d ≡ d = omega arith in
-      let q : 1 * 1 * denominator ≡ denominator = omega arith in
-      subst (λ k. IsWithin M (k * (bound * bound)) denominator (trace_term is D E x m)) p
-      (subst (λ k. IsWithin M (1 * d * (bound * bound)) k (trace_term is D E x m)) q
-      (within-scale M d d (1 * d) (1 * 1) (bound * bound) denominator (trace_factor is E x m) (D.at ((phase_table step.inner).opposite m))
-      (factor_powers is D E x m) w))
+  term_within x m = term_few is D E (bound * bound) denominator member_within x m
 
   pub sum_within : (x : Fin (place_count step.outer)) (k : ℕ) → ((q : ℕ) → q < k → q < place_count step.inner)
       → IsWithin M (k * (d * (bound * bound))) denominator (first_terms M (trace_term is D E x) k)
-  sum_within x k below = first_within M (trace_term is D E x) (d * (bound * bound)) denominator
-      (term_within x (phase_table step.inner).start).positive (term_within x) k below
+  sum_within x k below = sum_few is D E (bound * bound) denominator member_within x k below
 
   pub total_within : (x : Fin (place_count step.outer))
       → IsWithin M (place_count step.inner * (d * (bound * bound))) denominator (total (place_count step.inner) (trace_term is D E x))
-  total_within x = subst (IsWithin M (place_count step.inner * (d * (bound * bound))) denominator) (first_all M (trace_term is D E x))
-      (sum_within x (place_count step.inner) (λ q l. l))
+  total_within x = total_few is D E (bound * bound) denominator member_within x
 
   pub ratio_within : (y : Number M) → (numbers M).mul (whole (numbers M) (place_count step.inner)) y ≡ whole (numbers M) d
       → IsRootSum M d (place_count step.inner) y
@@ -186,6 +202,49 @@ module _ {S : Type 0} {G : Ghosts S} {M : ℕ} {step : Step} (is : IsStep M step
       (within-scale M d d d (place_count step.inner) (place_count step.inner * (d * (bound * bound))) denominator inverse_ratio
       (total (place_count step.inner) (trace_term is D E x)) (ratio_within inverse_ratio inverse_ratio-is) (total_within x))
 
+  abbrev sharp : IsSharplySized M (place_count step.inner) f
+  sharp = fixed.sized.sharp
+
+  rows_divide : d ∣ place_count step.inner
+  rows_divide = subst (λ k. k ∣ place_count step.inner) fixed.read.size sharp.divides
+
+  few_of_family : AreFew (place_count step.inner) d sharp.powers
+  few_of_family = subst (λ k. AreFew (place_count step.inner) k sharp.powers) fixed.read.size sharp.few
+
+  divides_places : d ∣ place_count step.outer
+  divides_places = subst (λ k. d ∣ k) (sym (outer_count is)) (Nat.dvd-mul_left_of_dvd d rows_divide is.quotient.index)
+
+  -- over h/d, where d q is h
+  over_quotient : (q : ℕ) → 0 < q → place_count step.inner ≡ d * q → (x : Fin (place_count step.outer))
+      → IsWithin M (place_count step.inner * (d * sharp.powers)) (q * sharp.over) (E.at x)
+  over_quotient q some split x =
+      let s = place_count step.inner * (d * sharp.powers) in
+      subst (λ k. IsWithin M k (q * sharp.over) (E.at x)) (Nat.one-mul s)
+      (subst (IsWithin M (1 * s) (q * sharp.over)) (matrix_is x inverse_ratio inverse_ratio-is)
+      (within-scale M d d 1 q s sharp.over inverse_ratio (total (place_count step.inner) (trace_term is D E x))
+      (one_over M (place_count step.inner) d q is.positive inverse_ratio fixed.positive some split inverse_ratio-is)
+      (total_few is D E sharp.powers sharp.over (read_within M (small is) D f fixed.read sharp.powers sharp.over sharp.entries) x)))
+
+  trace_powers : (x : Fin (place_count step.outer)) → IsRootSum M d 1 (trace (E.at x))
+  trace_powers x = trace-IsRootSum M is.positive (phase_table step.outer) is.outer_divides E x
+
+  extension_sharp : place_count step.inner ≤ 24 → (k : Family S G) → IsRead M (large is) E k → IsSharplySized M (place_count step.outer) k
+  extension_sharp few k r = elim (cases_lt 1 d) [
+    | inl many ↦ (
+        let c = cofactor d (place_count step.inner) rows_divide in
+        let some : 0 < c.0 = factor_positive d c.0 (place_count step.inner) (members_positive is) c.1 in
+        let o = place_count step.outer in
+        sharply_sized M (large is) E k r divides_places (place_count step.inner * (d * sharp.powers)) (c.0 * sharp.over)
+        (few_extension (place_count step.inner) d c.0 o c.1 fixed.few few (twice_members is) many sharp.powers few_of_family)
+        (small_extension (place_count step.inner) d c.0 o c.1 fixed.few few (twice_members is) many sharp.over sharp.small)
+        (over_quotient c.0 some c.1) trace_powers)
+    | inr single ↦ (
+        let one : d ≡ 1 = (let l = fixed.positive in omega (arith, l, single)) in
+        let o = place_count step.outer in
+        sharply_sized M (large is) E k r divides_places 1 1 (few_one o d) (small_one o)
+        (λ i. single_within M d (E.at i) one (trace_powers i)) trace_powers)
+  ]
+
   -- a family with the matrices of the extension
   pub extension_sized : place_count step.inner ≤ 24 → (k : Family S G) → IsRead M (large is) E k → IsSized M (place_count step.outer) k
   extension_sized few k r =
@@ -198,4 +257,5 @@ module _ {S : Type 0} {G : Ghosts S} {M : ℕ} {step : Step} (is : IsStep M step
             (subst (IsWithin M (B * B) (place_count step.inner * denominator)) (sym (r.matrices i))
             (within-more M d d (d * (place_count step.inner * (d * (bound * bound)))) (B * B) (place_count step.inner * denominator) (E.at i)
             (square_bound d (place_count step.inner) bound B fixed.few grows) (extension_within i)));
+        sharp = extension_sharp few k r;
       }

@@ -2,8 +2,9 @@
 --   size_is                  the number of rows
 --   rows_small, rows_positive    it is small, and positive
 --   made_count, made_order, made_orders, made_matrix      the list of all entries
---   induced_made, induced_sized              the family, and its size
+--   induced_made, induced_sized, induced_sharp      the family, and its sizes
 use Rattle.std.proofs.Common.{◌≡◌, sym, ◌∙◌, ap, ap₂, subst, ℕ, ◌*◌, ◌<◌, ◌≤◌, ◌⊎◌, inl, inr, List, length, arith}
+use Rattle.std.specs.Int.{◌∣◌}
 use native.Mathlib.Nat as Nat
 use mathlib.Core.Path.{fun_ext}
 use Rattle.irr_algebra.specs.Fin.{Fin}
@@ -25,13 +26,15 @@ use Rattle.irr_rep.specs.declared.family.Family.{Family}
 use Rattle.irr_rep.specs.Defects.{IsMatrix}
 use Rattle.irr_rep.specs.Family.{matrix_at}
 use Rattle.irr_rep.specs.Twisted.{phase_table, place_count}
+use Rattle.irr_rep.proofs.TraceRoots.{trace-IsRootSum}
 use Rattle.irr_climb.specs.declared.step.Step.{Step}
 use Rattle.irr_climb.specs.Families.{IsRead}
-use Rattle.irr_climb.specs.Sizes.{IsSized, size_bound}
+use Rattle.irr_climb.specs.Sizes.{AreFew, IsSharplySized, IsSized, size_bound}
 use Rattle.irr_climb.specs.Steps.{IsInducedFamily, IsStep, large, small}
 use Rattle.irr_climb.proofs.ExtensionLists.{MatricesSoFar, matrices_read}
 use Rattle.irr_climb.proofs.InducedReads.{family_within}
-use Rattle.irr_climb.proofs.InducedSizes.{bound_grows, induced_within}
+use Rattle.irr_climb.proofs.InducedSizes.{bound_grows, induced_within, outer_count, twice_inner, two_or_more}
+use Rattle.irr_climb.proofs.SharpSizes.{few_induced, read_within, sharply_sized, small_induced}
 
 pub size_is : {M : ℕ} {step : Step} (is : IsStep M step) (d dim : ℕ) → dim ≡ d → step.index * dim ≡ times is.quotient.index d
 size_is is d dim e = ap₂ (λ u v. u * v) is.index e ∙ sym (times-mul is.quotient.index d)
@@ -101,6 +104,28 @@ module _ {S : Type 0} {G : Ghosts S} {M : ℕ} {step : Step} (is : IsStep M step
   pub induced_made : IsInducedFamily is D made
   induced_made = record { family = induced_family is.quotient D; induced = induced_family-is is.quotient D; read = made_read }
 
+  induced_divides : d ∣ place_count step.inner → times is.quotient.index d ∣ place_count step.outer
+  induced_divides v = subst (λ k. k ∣ place_count step.outer) (sym (times-mul is.quotient.index d))
+      (subst (λ k. is.quotient.index * d ∣ k) (sym (outer_count is)) (Nat.mul-dvd-mul_left d is.quotient.index v))
+
+  twice_rows : 2 * d ≤ times is.quotient.index d
+  twice_rows = subst (λ k. 2 * d ≤ k) (sym (times-mul is.quotient.index d)) (Nat.mul-le-mul_right d (two_or_more is))
+
+  induced_sharp : (f : Family S G) → IsRead M (small is) D f → IsSharplySized M (place_count step.inner) f
+      → IsSharplySized M (place_count step.outer) made
+  induced_sharp f r sharp =
+      let h = place_count step.inner in
+      let o = place_count step.outer in
+      let within = read_within M (small is) D f r sharp.powers sharp.over sharp.entries in
+      sharply_sized M (large is) (induced_family is.quotient D) made made_read
+      (induced_divides (subst (λ k. k ∣ h) r.size sharp.divides)) sharp.powers sharp.over
+      (few_induced h o (twice_inner is) d sharp.powers (times is.quotient.index d) twice_rows
+      (subst (λ k. AreFew h k sharp.powers) r.size sharp.few))
+      (small_induced h o (twice_inner is) sharp.over sharp.small)
+      (λ i. subst (IsWithin M sharp.powers sharp.over) (sym (induced-matrix is.quotient D i))
+      (induced_within is D sharp.powers sharp.over (within (phase_table step.inner).start).positive within i positive))
+      (λ i. trace-IsRootSum M is.positive (phase_table step.outer) is.outer_divides (induced_family is.quotient D) i)
+
   pub induced_sized : (f : Family S G) → IsRead M (small is) D f → IsSized M (place_count step.inner) f → IsSized M (place_count step.outer) made
   induced_sized f r sized =
       let b = size_bound (place_count step.inner) in
@@ -115,4 +140,5 @@ module _ {S : Type 0} {G : Ghosts S} {M : ℕ} {step : Step} (is : IsStep M step
             (Nat.mul-le-mul (bound_grows is) (bound_grows is))
             (induced_within is D (b * b) sized.denominator (family_within is D f r sized (phase_table step.inner).start).positive
             (family_within is D f r sized) i positive)));
+        sharp = induced_sharp f r sized.sharp;
       }

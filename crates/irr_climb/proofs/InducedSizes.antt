@@ -1,5 +1,6 @@
 -- Sizes of the matrices of an induced family.
 --   inner_few                the smaller table has at most half as many places
+--   outer_count, two_or_more, twice_inner      the larger table has as many places as the index times the smaller one
 --   bound_grows              the bound does not fall
 --   induced_within           the entries of an induced matrix
 --   product_few              what a product of a power of z with an entry asks
@@ -37,16 +38,19 @@ product_few N b limited few =
     Nat.le_trans k l
 
 module _ {M : ℕ} {step : Step} (is : IsStep M step) where
-  outer_count : place_count step.outer ≡ is.quotient.index * place_count step.inner
+  pub outer_count : place_count step.outer ≡ is.quotient.index * place_count step.inner
   outer_count = whole_inj (number_field M is.positive) (place_count step.outer) (is.quotient.index * place_count step.inner)
       (places-index (numbers M) is.quotient ∙ sym (whole-mul (numbers M) is.quotient.index (place_count step.inner)))
 
-  pub twice_inner : 2 * place_count step.inner ≤ place_count step.outer
-  twice_inner = subst (λ k. 2 * place_count step.inner ≤ k) (sym outer_count) (Nat.mul-le-mul_right (place_count step.inner) (above is.two_or_three))
+  pub two_or_more : 2 ≤ is.quotient.index
+  two_or_more = above is.two_or_three
     where
       above : (is.quotient.index ≡ 2) ⊎ (is.quotient.index ≡ 3) → 2 ≤ is.quotient.index
       above (inl e) = omega (arith, e)
       above (inr e) = omega (arith, e)
+
+  pub twice_inner : 2 * place_count step.inner ≤ place_count step.outer
+  twice_inner = subst (λ k. 2 * place_count step.inner ≤ k) (sym outer_count) (Nat.mul-le-mul_right (place_count step.inner) two_or_more)
 
   inner_positive : 1 ≤ place_count step.inner
   inner_positive = let l = to_nat-lt (phase_table step.inner).start in omega (arith, l)

@@ -9,6 +9,8 @@ pub mod RowSearch
 pub mod ExtensionSums
 pub mod ExtensionLists
 pub mod ExtensionSizes
+pub mod SharpSizes
+pub mod SizesOver
 pub mod ExtensionTerms
 pub mod ExtensionPlaces
 pub mod ExtensionRoots

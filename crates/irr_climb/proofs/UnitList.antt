@@ -1,20 +1,22 @@
 -- The list of the subgroup of the unit: one family of size 1.
 --   unit_on                  a family of the program whose one matrix is the unit is a full list on the subgroup of the unit
-use Rattle.std.specs.Prelude.{ℕ, ◌≡◌, ◌<◌, ◌≤◌, ◌*◌, List, [], ◌∷◌, length}
+use Rattle.std.specs.Prelude.{ℕ, ◌≡◌, ◌<◌, List, [], ◌∷◌, length}
 use Rattle.std.specs.Int.{◌∣◌}
 use Rattle.std.proofs.Common.{sym, ◌∙◌, ap, subst, refl, get_or, arith}
+use native.Mathlib.Nat as Nat
 use Rattle.std.proofs.lemmas.List.Elements.{All-nil, All-push}
 use Rattle.irr_algebra.specs.Ring.{Ring}
 use Rattle.irr_algebra.specs.Fin.{Fin, to_nat}
-use Rattle.irr_algebra.specs.Matrix.{scale, unit}
+use Rattle.irr_algebra.specs.Matrix.{Matrix, scale, trace, unit}
 use Rattle.irr_algebra.specs.Action.{IsSimple}
 use Rattle.irr_algebra.proofs.Indices.{only_first, to_nat-lt, to_nat_inj}
-use Rattle.irr_algebra.proofs.Matrices.{mul-unit, scale-one, unit-mul}
+use Rattle.irr_algebra.proofs.Matrices.{mul-unit, scale-one, trace-unit, unit-mul}
 use Rattle.irr_number.specs.Number.{numbers}
 use Rattle.irr_theory.specs.FactorSystem.{FactorSystem, Representation}
 use Rattle.irr_theory.specs.Representations.{count_total, IsFull, Representations}
 use Rattle.irr_theory.proofs.OnePlace.{one_family-simple}
 use Rattle.irr_space.specs.PhaseTable.{PhaseTable, phases_over}
+use Rattle.irr_canonical.specs.RootSum.{IsRootSum}
 use Rattle.irr_cyc.specs.declared.scalars.Scalar.{Ghosts}
 use Rattle.irr_mat.specs.declared.matrices.Mat.{Mat}
 use Rattle.irr_mat.specs.Entries.{first_order, matrix_of}
@@ -22,13 +24,14 @@ use Rattle.irr_mat.specs.Size.{IsWithin}
 use Rattle.irr_mat.proofs.Bounds.{within-unit}
 use Rattle.irr_rep.specs.declared.family.Family.{Family}
 use Rattle.irr_rep.specs.Family.{HasShape, matrix_at}
-use Rattle.irr_rep.specs.Subgroup.{IsRestriction}
 use Rattle.irr_rep.proofs.Families.{matrix_at-item}
+use Rattle.irr_rep.proofs.TraceRoots.{IsRootSum-whole}
 use Rattle.irr_climb.specs.Families.{IsRead}
-use Rattle.irr_climb.specs.Lists.{IsFullOn, IsFullyRead}
+use Rattle.irr_climb.specs.Lists.{IsFullOn}
 use Rattle.irr_climb.specs.Sizes.{IsSized, size_bound}
 use Rattle.irr_climb.proofs.FamilyLists.{read_one}
 use Rattle.irr_climb.proofs.OverMember.{sized_of_one}
+use Rattle.irr_climb.proofs.SharpSizes.{few_one, small_one}
 
 module _ {R : Ring} (P : FactorSystem R) (one : P.places ≡ 1) where
   alone : (i j : Fin P.places) → i ≡ j
@@ -90,13 +93,27 @@ module _ {S : Type 0} {G : Ghosts S} (M : ℕ) (f : Family S G) (m : Mat S G) (d
   unit_read : (P : FactorSystem (numbers M)) → (one : P.places ≡ 1) → IsRead M P (unit_family P one) f
   unit_read P one = record { size = dim; shape = shape_of_one P.places one; matrices = λ i. unit_matrix P.places one i }
 
+  unit_entries : (i : Fin 1) → IsWithin M 1 1 (matrix_at M f.dim f.mats.items i)
+  unit_entries i = subst (λ d. IsWithin M 1 1 (matrix_at M d f.mats.items i)) (sym dim)
+      (subst (IsWithin M 1 1) (sym (unit_matrix 1 refl i)) (within-unit M 1))
+
   unit_sized : IsSized M 1 f
   unfolding size_bound
   unit_sized = record {
     denominator = 1;
     small = omega arith;
-    within = λ i. subst (λ d. IsWithin M 1 1 (matrix_at M d f.mats.items i)) (sym dim)
-        (subst (IsWithin M 1 1) (sym (unit_matrix 1 refl i)) (within-unit M 1));
+    within = λ i. unit_entries i;
+    sharp = record {
+      divides = subst (λ k. k ∣ 1) (sym dim) (Nat.dvd_refl 1);
+      powers = 1;
+      over = 1;
+      few = few_one 1 f.dim;
+      small = small_one 1;
+      entries = λ i. unit_entries i;
+      traces = λ i. subst (λ d. IsRootSum M d 1 (trace (matrix_at M d f.mats.items i))) (sym dim)
+          (subst (λ (a : Matrix (numbers M) 1 1). IsRootSum M 1 1 (trace a)) (sym (unit_matrix 1 refl i))
+          (subst (IsRootSum M 1 1) (sym (trace-unit (numbers M) 1)) (IsRootSum-whole M 1)));
+    };
   }
 
   pub unit_on : {h : ℕ} (T : PhaseTable h) (fs : List (Family S G)) → fs ≡ f ∷ [] → IsFullOn T M (0 ∷ []) fs

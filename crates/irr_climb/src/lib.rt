@@ -6,6 +6,7 @@ mod complete;
 mod extensions;
 mod families;
 mod induced;
+mod laws;
 mod order;
 mod splits;
 mod step;
@@ -13,3 +14,4 @@ mod turns;
 
 pub use complete::{ClimbError, small_reps};
 pub use irr_memory::Memory;
+pub use laws::numbers_over_less_denominators;
