@@ -1,0 +1,15 @@
+//! What a user hands in: the words of a command, and the lines of an input.
+#![tactic(auto)]
+
+mod arguments;
+mod input;
+mod laws;
+mod verb;
+mod words;
+
+pub use input::{GenLine, Input, InputError, Reason, read_input};
+pub use laws::{bytes_mean_one_input, words_mean_one_command};
+pub use words::{Command, Usage, read_words};
+
+#[cfg(test)]
+mod tests;

@@ -1,0 +1,141 @@
+use crate::{
+    Command, InputError, Reason, Usage, bytes_mean_one_input, read_input, read_words,
+    words_mean_one_command,
+};
+use irr_kvec::Wave;
+use std::alloc::Global;
+use std::test::Fail;
+
+// What the words are read as: a command word, the denominators of its wave vectors or 0 where there are no
+// more, and its number.
+fn words_read(
+    alloc: Global,
+    words: &[&str],
+) -> Result<Result<(&'static str, [u32; 4]), Usage>, Fail> {
+    let mut list = Vec::new(alloc);
+    for word in words {
+        list.push(Vec::from_slice(alloc, word.as_bytes())?)?;
+    }
+    Ok(read_words(&list).map(|command| parts(&command)))
+}
+
+fn parts(command: &Command) -> (&'static str, [u32; 4]) {
+    match command {
+        Command::Star(k) => ("star", [k.den, 0, 0, 0]),
+        Command::Small(k) => ("small", [k.den, 0, 0, 0]),
+        Command::Full(k) => ("full", [k.den, 0, 0, 0]),
+        Command::Product(k, l) => ("product", [k.den, l.den, 0, 0]),
+        Command::Subduce(k) => ("subduce", [k.den, 0, 0, 0]),
+        Command::Compat(k, l, m) => ("compat", [k.den, l.den, third(m), 0]),
+        Command::Check => ("check", [0, 0, 0, 0]),
+        Command::Gen(number) => ("gen", [0, 0, 0, *number]),
+    }
+}
+
+fn third(wave: &Option<Wave>) -> u32 {
+    match wave {
+        Some(wave) => wave.den,
+        None => 0,
+    }
+}
+
+#[test]
+fn words_are_commands(rt: HostRuntime) -> Result<(), Fail> {
+    words_mean_one_command();
+    for (words, read) in [
+        (&["star", "1/4,0,0"][..], ("star", [4, 0, 0, 0])),
+        (&["small", "0,1/2,0"], ("small", [2, 0, 0, 0])),
+        (&["full", "-1 / 3,\t0,+0"], ("full", [3, 0, 0, 0])),
+        (
+            &["product", "1/8,0,0", "0,1/5,0"],
+            ("product", [8, 5, 0, 0]),
+        ),
+        (&["subduce", "0,0,0"], ("subduce", [1, 0, 0, 0])),
+        (&["compat", "0,0,0", "0,1/2,0"], ("compat", [1, 2, 0, 0])),
+        (
+            &["compat", "0,0,0", "1/2,0,0", "0,1/7,0"],
+            ("compat", [1, 2, 7, 0]),
+        ),
+        (&["check"], ("check", [0, 0, 0, 0])),
+        (&["gen", "007"], ("gen", [0, 0, 0, 7])),
+        (&["gen", "4294967295"], ("gen", [0, 0, 0, 4_294_967_295])),
+    ] {
+        assert!(rt; words_read(rt.alloc(), words)? == Ok(read));
+    }
+    Ok(())
+}
+
+#[test]
+fn the_first_faulty_word_is_named(rt: HostRuntime) -> Result<(), Fail> {
+    for (words, n) in [
+        (&[][..], 1),
+        (&["smal", "0,0,0"], 1),
+        (&["Small", "0,0,0"], 1),
+        (&["small"], 2),
+        (&["small", "1/2,0"], 2),
+        (&["small", " 0,0,0"], 2),
+        (&["small", "1/0,0,0", "0"], 2),
+        (&["small", "100001,0,0"], 2),
+        (&["small", "0,0,0", "0"], 3),
+        (&["product", "0,0,0"], 3),
+        (&["product", "0,0,0", "0,0,0", "0,0,0"], 4),
+        (&["compat", "0,0,0", "0,0,0", "0"], 4),
+        (&["compat", "0,0,0", "0,0,0", "0,0,0", "0,0,0"], 5),
+        (&["check", "0,0,0"], 2),
+        (&["gen", "4294967296"], 2),
+        (&["gen", "-1"], 2),
+        (&["gen", ""], 2),
+        (&["gen", "7", "7"], 3),
+    ] {
+        assert!(rt; words_read(rt.alloc(), words)? == Err(Usage(n)));
+    }
+    Ok(())
+}
+
+// The lines of the generators that are read, 0 where there are no more, and the number of lines.
+fn input_read(alloc: Global, text: &str) -> Result<([u64; 3], u64), InputError> {
+    let input = read_input(alloc, text.as_bytes())?;
+    let line = |i: usize| input.gens.get(i).map_or(0, |g| g.line);
+    Ok(([line(0), line(1), line(2)], input.lines))
+}
+
+#[test]
+fn lines_are_generators_or_skipped(rt: HostRuntime) {
+    bytes_mean_one_input();
+    for (text, lines, count) in [
+        ("", [0, 0, 0], 0),
+        ("\n", [0, 0, 0], 1),
+        ("-x,-y,-z\n", [1, 0, 0], 1),
+        ("-x,-y,-z", [1, 0, 0], 1),
+        ("-x,-y,-z\r\nz,x,y\r\n", [1, 2, 0], 2),
+        ("# twofold\n\n \t\n' 1/2-X , +y, Z+1/2 '\n", [4, 0, 0], 4),
+        ("x,y,z\n \t# x,y\r\n\r\n\"-x,-y,z\"", [1, 4, 0], 4),
+        ("#", [0, 0, 0], 1),
+        ("x,y,z\n\n", [1, 0, 0], 2),
+    ] {
+        assert!(rt;
+            input_read(rt.alloc(), text) == Ok((lines, count)),
+            "at {text}"
+        );
+    }
+}
+
+#[test]
+fn the_first_faulty_line_is_named(rt: HostRuntime) {
+    for (text, line, reason) in [
+        ("-x,-y,-z\nx,y\n", 2, Reason::Shape(3)),
+        ("-x,-y,-z\nx,x,z\n", 2, Reason::Determinant),
+        ("-x,-y,-z\nx+1/0,y,z\n", 2, Reason::Zero(4)),
+        ("-x,-y,-z\nx+100001,y,z\n", 2, Reason::Range(2)),
+        ("subgroup\n", 1, Reason::Shape(0)),
+        ("\n#\n  report\t1\n", 3, Reason::Shape(2)),
+        ("x,y,z\nx,y,z\r", 2, Reason::Shape(5)),
+        ("x,y\nx,x,z\n", 1, Reason::Shape(3)),
+        ("\rx,y,z\n", 1, Reason::Shape(0)),
+    ] {
+        assert!(rt;
+            input_read(rt.alloc(), text) == Err(InputError::Bad { line, reason }),
+            "at {text}"
+        );
+    }
+}
