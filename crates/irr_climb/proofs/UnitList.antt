@@ -7,14 +7,12 @@ use native.Mathlib.Nat as Nat
 use Rattle.std.proofs.lemmas.List.Elements.{All-nil, All-push}
 use Rattle.irr_algebra.specs.Ring.{Ring}
 use Rattle.irr_algebra.specs.Fin.{Fin, to_nat}
-use Rattle.irr_algebra.specs.Matrix.{Matrix, scale, trace, unit}
-use Rattle.irr_algebra.specs.Action.{IsSimple}
-use Rattle.irr_algebra.proofs.Indices.{only_first, to_nat-lt, to_nat_inj}
-use Rattle.irr_algebra.proofs.Matrices.{mul-unit, scale-one, trace-unit, unit-mul}
+use Rattle.irr_algebra.specs.Matrix.{Matrix, trace, unit}
+use Rattle.irr_algebra.proofs.Indices.{only_first, to_nat-lt}
+use Rattle.irr_algebra.proofs.Matrices.{trace-unit}
 use Rattle.irr_number.specs.Number.{numbers}
-use Rattle.irr_theory.specs.FactorSystem.{FactorSystem, Representation}
+use Rattle.irr_theory.specs.FactorSystem.{FactorSystem}
 use Rattle.irr_theory.specs.Representations.{count_total, IsFull, Representations}
-use Rattle.irr_theory.proofs.OnePlace.{one_family-simple}
 use Rattle.irr_space.specs.PhaseTable.{PhaseTable, phases_over}
 use Rattle.irr_canonical.specs.RootSum.{IsRootSum}
 use Rattle.irr_cyc.specs.declared.scalars.Scalar.{Ghosts}
@@ -26,6 +24,7 @@ use Rattle.irr_rep.specs.declared.family.Family.{Family}
 use Rattle.irr_rep.specs.Family.{HasShape, matrix_at}
 use Rattle.irr_rep.proofs.Families.{matrix_at-item}
 use Rattle.irr_rep.proofs.TraceRoots.{IsRootSum-whole}
+use Rattle.irr_root.proofs.UnitFamilies.{unit_family, unit_simple}
 use Rattle.irr_climb.specs.Families.{IsRead}
 use Rattle.irr_climb.specs.Lists.{IsFullOn}
 use Rattle.irr_climb.specs.Sizes.{IsSized, size_bound}
@@ -34,38 +33,14 @@ use Rattle.irr_climb.proofs.OverMember.{sized_of_one}
 use Rattle.irr_climb.proofs.SharpSizes.{few_one, small_one}
 
 module _ {R : Ring} (P : FactorSystem R) (one : P.places ≡ 1) where
-  alone : (i j : Fin P.places) → i ≡ j
-  alone i j =
-      let a : to_nat i < P.places = to_nat-lt i in
-      let b : to_nat j < P.places = to_nat-lt j in
-      to_nat_inj i j (omega (arith, one, a, b))
-
-  abbrev unit_family : Representation P 1
-  unit_family = record {
-    at = λ i. unit R 1;
-    at-start = refl;
-    at-product = λ i j. unit-mul (unit R 1) ∙ sym (ap (λ c. scale R c (unit R 1)) (ap (P.phase i) (alone j P.start) ∙ P.phase-start i)
-        ∙ scale-one (unit R 1));
-  }
-
   abbrev unit_list : Representations P
-  unit_list = record { count = 1; size = λ m. 1; member = λ m. unit_family }
-
-  unit_simple : IsSimple unit_family.at
-  unit_simple =
-      let s = one_family-simple R in
-      record {
-        members = s.members;
-        are_intertwiners = λ k. record { intertwines = λ i. unit-mul (s.members k) ∙ sym (mul-unit (s.members k)) };
-        independent = s.independent;
-        spanning = λ x h. s.spanning x (record { intertwines = λ i. unit-mul x ∙ sym (mul-unit x) });
-      }
+  unit_list = record { count = 1; size = λ m. 1; member = λ m. unit_family P one }
 
   unit_full : IsFull unit_list
   unfolding count_total
   unit_full = record {
     positive = λ m. omega arith;
-    simple = λ m. unit_simple;
+    simple = λ m. unit_simple P one;
     inequivalent = λ m n d e. d (sym (only_first m) ∙ only_first n);
     squares = sym one;
   }

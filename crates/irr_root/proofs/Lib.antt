@@ -24,3 +24,6 @@ pub mod TurnedProducts
 pub mod SandwichSums
 pub mod ProductTerms
 pub mod PlacePositions
+pub mod SingleFamilies
+pub mod UnitFamilies
+pub mod UnitSteps

@@ -179,3 +179,6 @@ pub(crate) fn exponents_at<S: Scalar>(
     let times = multiplicities(alloc, t, character, &powers, first, step)?;
     repeated(alloc, first, step, times.as_slice())
 }
+
+#[cfg(test)]
+mod tests;

@@ -50,3 +50,6 @@ pub fn choose<S: Scalar>(
     let chosen = chosen_traces(alloc, t, inner, &order, p, g, f.dim, members, list, row)?;
     Ok(chosen)
 }
+
+#[cfg(test)]
+mod tests;

@@ -43,4 +43,4 @@ pub(crate) fn powers_of(alloc: Global, t: &Twisted, i: u32) -> Result<Powers, Me
 }
 
 #[cfg(test)]
-mod tests;
+pub(crate) mod tests;

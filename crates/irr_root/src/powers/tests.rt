@@ -1,5 +1,5 @@
 ghost use Rattle.std.specs.Prelude.{◌≡◌, IfOk};
-ghost use Rattle.irr_rep.specs.Twisted.{place_count};
+ghost use Rattle.irr_rep.specs.Twisted.{phase_table, place_count};
 
 use super::*;
 use crate::place_powers::turned_power;
@@ -7,8 +7,9 @@ use std::test::Fail;
 
 // The little group of P2_1 at 0,1/2,0, with z = i: the square of the screw is a lattice translation with
 // the phase -1.
-fn screw_axis(alloc: Global) -> Result<Twisted, Memory>
-    ensures { IfOk result (λ t. place_count t ≡ 2) }
+pub(crate) fn screw_axis(alloc: Global) -> Result<Twisted, Memory>
+    ensures count { IfOk result (λ t. place_count t ≡ 2) }
+    ensures order { IfOk result (λ t. (phase_table t).order ≡ 4) }
 {
     let products = Vec::from_slice(alloc, &[0, 1, 1, 0])?;
     let exponents = Vec::from_slice(alloc, &[0, 0, 0, 2])?;
