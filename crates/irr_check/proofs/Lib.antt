@@ -1,0 +1,11 @@
+mod TrialOrder
+mod Readings
+mod FirstTrials
+mod ListedFamilies
+mod RowDifferences
+mod OperationLists
+mod FamilyFacts
+mod PairFacts
+mod Verdicts
+mod ReportVerdicts
+mod MadeReports

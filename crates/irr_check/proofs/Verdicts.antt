@@ -1,0 +1,74 @@
+-- Verdicts on reports.
+--   verdict_meant_of       the verdict by dimensions is the verdict, where each subgroup has a step
+--   complete_of_yes        Yes means the report of a complete list
+use Rattle.std.proofs.Common.{◌≡◌, ◌∙◌, ap, subst, ℕ, ◌<◌}
+use mathlib.Core.Path.{fun_ext}
+use Rattle.irr_algebra.specs.Fin.{Fin}
+use Rattle.irr_number.specs.Number.{Number}
+use Rattle.irr_space.specs.Operation.{Operation}
+use Rattle.irr_space.specs.Reciprocal.{Sign}
+use Rattle.irr_space.specs.CanonicalOperation.{IsNumbering}
+use Rattle.irr_space.specs.Star.{IsInLittleGroup}
+use Rattle.irr_space.specs.PhaseTable.{IsTableOf, PhaseTable}
+use Rattle.irr_space.specs.CompleteList.{row}
+use Rattle.irr_text.specs.ReportText.{ReportContent}
+use Rattle.irr_check.specs.declared.verdict.Verdict.{Verdict}
+use Rattle.irr_check.specs.declared.verdict.Verdict.TheVariants.{Yes}
+use Rattle.irr_check.specs.Families.{Families, families_report, small_list}
+use Rattle.irr_check.specs.Trials.{Passes, Trial}
+use Rattle.irr_check.specs.Trials.Reading.{dimensions, meaning}
+use Rattle.irr_check.specs.Trials.Trial.{all, at_product, at_trace, at_unit, inequivalent, irreducible}
+use Rattle.irr_check.specs.Verdict.{HaveSteps, IsCompleteReport, IsFamiliesVerdict, IsVerdict, verdict_at}
+use Rattle.irr_check.specs.Verdict.IsFamiliesVerdict.{fails, passes}
+use Rattle.irr_check.specs.Verdict.IsVerdict.{of_families, other_operations, other_order}
+use Rattle.irr_check.proofs.Readings.{passed_complete, passed_small, passed_traces, verdict_meant}
+
+module _ (s : Sign) (G : Operation → Type 0) (r : ReportContent) (positive : (m : Fin r.count) → 0 < r.size m) where
+  sizes_positive : {h : ℕ} (ops : Fin h → Operation) (T : PhaseTable h) (F : Families T) → r ≡ families_report r.wave ops T F
+      → (m : Fin F.count) → 0 < F.size m
+  sizes_positive ops T F is = subst (λ (x : ReportContent). (m : Fin x.count) → 0 < x.size m) is positive
+
+  pub verdict_meant_of : HaveSteps s G r.wave → {v : Verdict} → IsVerdict dimensions s G r v → IsVerdict meaning s G r v
+  verdict_meant_of steps (other_order order other) = other_order order other
+  verdict_meant_of steps (other_operations ops order numbering first) = other_operations ops order numbering first
+  verdict_meant_of steps (of_families ops T F numbering table is verdict) = of_families ops T F numbering table is
+      (verdict_meant T F (sizes_positive ops T F is) (steps _ ops T numbering table) verdict)
+
+  failed_trial : {c h : ℕ} (t : Trial c h) → verdict_at t ≡ Yes → ⊥
+  unfolding verdict_at
+  failed_trial (at_unit m) e = cc
+  failed_trial (at_product m i j) e = cc
+  failed_trial (at_trace m i) e = cc
+  failed_trial (irreducible m) e = cc
+  failed_trial (inequivalent a b) e = cc
+  failed_trial all e = cc
+
+  passed_all : {h : ℕ} (T : PhaseTable h) (F : Families T) {v : Verdict} → IsFamiliesVerdict dimensions T F v → v ≡ Yes
+      → (t : Trial F.count h) → Passes T F dimensions t
+  passed_all T F (fails t is) e = absurd (failed_trial t e)
+  passed_all T F (passes every) e = every
+
+  module _ {h : ℕ} (ops : Fin h → Operation) (T : PhaseTable h) (F : Families T) (numbering : IsNumbering G (IsInLittleGroup G r.wave) ops)
+      (table : IsTableOf s G r.wave ops T) (is : r ≡ families_report r.wave ops T F) (every : (t : Trial F.count h) → Passes T F dimensions t) where
+    with_characters : (Fin F.count → Fin h → Number T.order) → ReportContent
+    with_characters c = families_report r.wave ops T (record { count = F.count; size = F.size; character = c; matrix = F.matrix })
+
+    complete_families : IsCompleteReport s G r
+    unfolding with_characters row
+    complete_families =
+        let p = sizes_positive ops T F is in
+        record {
+          places = h;
+          operation = ops;
+          numbering = numbering;
+          table = T;
+          is_table = table;
+          representations = small_list T F (passed_small T F p every);
+          complete = passed_complete T F p every;
+          content = is ∙ ap with_characters (fun_ext (λ m. fun_ext (λ i. passed_traces T F p every m i)));
+        }
+
+  pub complete_of_yes : {v : Verdict} → IsVerdict dimensions s G r v → v ≡ Yes → IsCompleteReport s G r
+  complete_of_yes (other_order order other) e = absurd cc
+  complete_of_yes (other_operations ops order numbering first) e = absurd cc
+  complete_of_yes (of_families ops T F numbering table is verdict) e = complete_families ops T F numbering table is (passed_all T F verdict e)

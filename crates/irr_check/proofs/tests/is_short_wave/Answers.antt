@@ -1,0 +1,15 @@
+-- The numbers of a wave vector, tried one by one.
+use Rattle.std.proofs.Common.{subst, ◌≤◌, ℤ, pos, unsigned_abs, get_or, FitsSigned, to_z, of_z, rules}
+use Rattle.std.specs.Int.{w64}
+use Rattle.std.proofs.lemmas.Int.{to_z-of_z}
+use Rattle.irr_kvec.proofs.Products.{at_places}
+use Rattle.irr_check.proofs.tests.is_short_wave.Goals as goal
+
+read : (x : ℤ) → FitsSigned w64 x → unsigned_abs (to_z w64 (of_z w64 x)) ≤ 400000 → unsigned_abs x ≤ 400000
+read x f h = subst (λ y. unsigned_abs y ≤ 400000) (to_z-of_z w64 x f) h
+
+pub returns-clause-numerators : goal.returns-clause-numerators
+returns-clause-numerators c = λ t. at_places (λ x. unsigned_abs x ≤ 400000) c.args.wave.now.num
+    (read (get_or c.args.wave.now.num 0 (pos 0)) (search rules) (c.is_short.ensures c.if-not-is_short.false))
+    (read (get_or c.args.wave.now.num 1 (pos 0)) (search rules) (c.is_short-2.ensures c.if-not-is_short-2.false))
+    (read (get_or c.args.wave.now.num 2 (pos 0)) (search rules) (c.is_short-3.ensures t))
