@@ -42,7 +42,7 @@ pub record IsPrintedAs (n den : ℕ) (t : ℕ × ℤ) : Type 0 where
 value-decimal : (m : ℕ) → m < 2 ^ 64 → digits_value 10 (decimal m) ≡ m
 value-decimal m h = (decimal_is_IsNumeral m h).1
 
-whole-decimal : (m : ℕ) → 0 < m → m < 2 ^ 64 → IsWhole (decimal m)
+pub whole-decimal : (m : ℕ) → 0 < m → m < 2 ^ 64 → IsWhole (decimal m)
 whole-decimal m p h = whole (decimal m) (decimal_is_IsNumeral m h).0 (first_decimal m p h)
   where
     whole : (ds : List ℕ) → IsNumeral 10 ds → 48 < get_or ds 0 0 → IsWhole ds

@@ -3,3 +3,13 @@ pub mod LineTexts
 pub mod Contents
 pub mod ListReports
 pub mod PrintedReports
+pub mod ReadPrinted
+pub mod Machines
+pub mod ReportTexts
+pub mod ReportStates
+pub mod ReportSound
+pub mod ReportLeads
+pub mod ReportEnds
+pub mod ReportPasses
+pub mod ReportSplits
+pub mod ReportFaults

@@ -1,17 +1,15 @@
 -- Texts one after another: over places, over numbers, and over lists.
---   plus_zero, moved_suc, one_plus     sums with 0 and with the next number
---   pieces-same           the same pieces at each place
 --   pieces-below          pieces over places are those over numbers
---   pieces-rows           r rows of c pieces are r * c pieces
---   pieces_below-list, pieces-list     pieces of the items of a list
+--   pieces_below-rows     r rows of c pieces are r * c pieces
+--   pieces_below-list     pieces of the items of a list
 --   pieces-numbered       pieces of the numbered items of a list
---   flat_map_step, numbered_none, numbered_step, rows_step     no item, one more, and one more row of items
+--   flat_map_step, numbered_step, rows_step     one more item, and one more row of items
 --   row_item              the item at a row and a column
-use Rattle.std.proofs.Common.{◌≡◌, sym, ◌∙◌, ap, ap₂, subst, refl, ℕ, zero, suc, ◌+◌, ◌*◌, ◌<◌, List, [], ◌∷◌, ◌++◌, append-nil, append_assoc, length, length-drop, ◌-◌, get_or, take, drop, Some, zero-mul, suc-mul, arith}
+use Rattle.std.proofs.Common.{◌≡◌, sym, ◌∙◌, ap, ap₂, subst, refl, ℕ, zero, suc, ◌+◌, ◌*◌, ◌<◌, ◌≤◌, List, [], ◌∷◌, ◌++◌, append-nil, append_assoc, length, length-drop, ◌-◌, get_or, take, drop, Some, zero-mul, suc-mul, arith}
 use Rattle.std.specs.List.{flat_map}
 use Rattle.std.specs.Prelude.{slice_get}
 use Rattle.std.proofs.Math.Seq.{take-add}
-use Rattle.std.proofs.lemmas.List.{flat_map_more, take_more, length-take-le, get_or-drop}
+use Rattle.std.proofs.lemmas.List.{flat_map_more, take_more, take_all, length-take-le, get_or-drop}
 use Rattle.std.proofs.lemmas.List.Concat.{flat_map-append}
 use Rattle.std.proofs.lemmas.Option.{get_or_from_slice_get, slice_get_within}
 use Rattle.irr_algebra.specs.Fin.{Fin, to_nat}
@@ -41,19 +39,19 @@ unfolding pieces_below
 pieces_below-same zero f g e = refl
 pieces_below-same (suc n) f g e = ap₂ (λ x y. x ++ y) (pieces_below-same n f g e) (e n)
 
-pub plus_zero : (m : ℕ) → m + 0 ≡ m
+plus_zero : (m : ℕ) → m + 0 ≡ m
 plus_zero m = omega arith
 
 plus_suc : (m n : ℕ) → m + suc n ≡ suc (m + n)
 plus_suc m n = omega arith
 
-pub moved_suc : (m n : ℕ) → m + suc n ≡ suc m + n
+moved_suc : (m n : ℕ) → m + suc n ≡ suc m + n
 moved_suc m n = omega arith
 
 plus_one : (n : ℕ) → suc n ≡ n + 1
 plus_one n = omega arith
 
-pub one_plus : (n : ℕ) → suc n ≡ 1 + n
+one_plus : (n : ℕ) → suc n ≡ 1 + n
 one_plus n = omega arith
 
 pieces_below-add : (m n : ℕ) (f : ℕ → List ℕ) → pieces_below (m + n) f ≡ pieces_below m f ++ pieces_below n (λ k. f (m + k))
@@ -123,6 +121,10 @@ numbered_step g before text xs i x lt is t = ap (λ u. u ++ g (i + 1) x) t ∙ a
     number : i + 1 ≡ 1 + length (take i xs)
     number = let e : length (take i xs) ≡ i = length-take-le i xs (omega arith) in omega (arith, e)
 
+pub numbered_all : {A : Type 0} (g : ℕ → A → List ℕ) (before text : List ℕ) (xs : List A) (i : ℕ) → length xs ≤ i
+    → text ≡ before ++ numbered g 1 (take i xs) → text ≡ before ++ numbered g 1 xs
+numbered_all g before text xs i le t = t ∙ ap (λ ys. before ++ numbered g 1 ys) (take_all i xs le)
+
 -- one more row of c items
 pub rows_step : {A : Type 0} (f : A → List ℕ) (before text : List ℕ) (xs : List A) (i c : ℕ) → text ≡ before ++ flat_map f (take (i * c) xs)
     → text ++ flat_map f (take c (drop (i * c) xs)) ≡ before ++ flat_map f (take ((i + 1) * c) xs)
@@ -140,7 +142,7 @@ row_item xs i c j x e = (
   sym (get_or-drop (i * c) xs j x ∙ get_or_from_slice_get xs (i * c + j) x x e),
 )
 
--- no item
+-- no item, and all
 pub numbered_none : {A : Type 0} (g : ℕ → A → List ℕ) (before : List ℕ) → before ≡ before ++ numbered g 1 []
 unfolding numbered
 numbered_none g before = sym (append-nil before)

@@ -1,7 +1,7 @@
 -- The text of a report is its lines, one after another.
 --   length-listed, pieces-listed      lists of items by place
 --   report_text-lines                 the text of a report from its lines
-use Rattle.std.proofs.Common.{◌≡◌, sym, ◌∙◌, ap, ap₂, refl, ℕ, zero, suc, ◌+◌, List, [], ◌∷◌, ◌++◌, append_assoc, append-nil, length}
+use Rattle.std.proofs.Common.{◌≡◌, sym, ◌∙◌, ap, ap₂, refl, ℕ, zero, suc, ◌+◌, List, [], ◌∷◌, ◌++◌, append_assoc, append-nil, length, arith}
 use Rattle.std.specs.Prelude.{codes}
 use Rattle.std.specs.List.{flat_map}
 use Rattle.std.specs.Fmt.{decimal}
@@ -14,7 +14,7 @@ use Rattle.irr_text.specs.TripletText.{triplet_text}
 use Rattle.irr_text.specs.ReportText.{ReportContent, report_text, pieces, operation_line, character_line, matrix_line, representation_lines, line, next_word}
 use Rattle.irr_report.specs.ReportLines.{WrittenRepresentation, numbered_lines, representations_from, triplet_line, entries_line, lines_of, report_lines}
 use Rattle.irr_report.specs.PrintedReport.{listed, entry_texts, representation_of, written_of}
-use Rattle.irr_report.proofs.Pieces.{moved_suc, one_plus, pieces-same, plus_zero}
+use Rattle.irr_report.proofs.Pieces.{pieces-same}
 
 pub length-listed : {A : Type 0} (n : ℕ) (f : Fin n → A) → length (listed n f) ≡ n
 unfolding listed
@@ -31,26 +31,35 @@ flat_map-rows : {A : Type 0} (g : A → List ℕ) (rows : List (List A)) → fla
 flat_map-rows g [] = refl
 flat_map-rows g (row ∷ rows) = ap (λ x. flat_map g row ++ x) (flat_map-rows g rows) ∙ sym (flat_map-append g row (flat_map (λ r. r) rows))
 
+moved : (s k : ℕ) → s + suc k ≡ suc s + k
+moved s k = omega arith
+
+unmoved : (s : ℕ) → s + 0 ≡ s
+unmoved s = omega arith
+
+from_one : (k : ℕ) → suc k ≡ 1 + k
+from_one k = omega arith
+
 numbered-pieces : {A : Type 0} (g : ℕ → A → List ℕ) (s n : ℕ) (f : Fin n → A)
     → pieces n (λ i. line (g (s + to_nat i) (f i))) ≡ flat_map line (numbered_lines g s (listed n f))
 unfolding pieces listed numbered_lines to_nat
 numbered-pieces g s zero f = refl
-numbered-pieces g s (suc n) f = ap₂ (λ x y. x ++ y) (ap (λ k. line (g k (f first))) (plus_zero s))
+numbered-pieces g s (suc n) f = ap₂ (λ x y. x ++ y) (ap (λ k. line (g k (f first))) (unmoved s))
     (pieces-same n (λ i. line (g (s + suc (to_nat i)) (f (next i)))) (λ i. line (g (suc s + to_nat i) (f (next i))))
-    (λ i. ap (λ k. line (g k (f (next i)))) (moved_suc s (to_nat i))) ∙ numbered-pieces g (suc s) n (λ i. f (next i)))
+    (λ i. ap (λ k. line (g k (f (next i)))) (moved s (to_nat i))) ∙ numbered-pieces g (suc s) n (λ i. f (next i)))
 
 numbered-lines : {A : Type 0} (g : ℕ → A → List ℕ) (n : ℕ) (f : Fin n → A)
     → pieces n (λ i. line (g (suc (to_nat i)) (f i))) ≡ flat_map line (numbered_lines g 1 (listed n f))
 numbered-lines g n f = pieces-same n (λ i. line (g (suc (to_nat i)) (f i))) (λ i. line (g (1 + to_nat i) (f i)))
-    (λ i. ap (λ k. line (g k (f i))) (one_plus (to_nat i))) ∙ numbered-pieces g 1 n f
+    (λ i. ap (λ k. line (g k (f i))) (from_one (to_nat i))) ∙ numbered-pieces g 1 n f
 
 from-pieces : (s n : ℕ) (f : Fin n → WrittenRepresentation)
     → pieces n (λ i. flat_map line (lines_of (s + to_nat i) (f i))) ≡ flat_map line (representations_from s (listed n f))
 unfolding pieces listed representations_from to_nat
 from-pieces s zero f = refl
-from-pieces s (suc n) f = ap₂ (λ x y. x ++ y) (ap (λ k. flat_map line (lines_of k (f first))) (plus_zero s))
+from-pieces s (suc n) f = ap₂ (λ x y. x ++ y) (ap (λ k. flat_map line (lines_of k (f first))) (unmoved s))
     (pieces-same n (λ i. flat_map line (lines_of (s + suc (to_nat i)) (f (next i)))) (λ i. flat_map line (lines_of (suc s + to_nat i) (f (next i))))
-    (λ i. ap (λ k. flat_map line (lines_of k (f (next i)))) (moved_suc s (to_nat i))) ∙ from-pieces (suc s) n (λ i. f (next i)))
+    (λ i. ap (λ k. flat_map line (lines_of k (f (next i)))) (moved s (to_nat i))) ∙ from-pieces (suc s) n (λ i. f (next i)))
     ∙ sym (flat_map-append line (lines_of s (f first)) (representations_from (suc s) (listed n (λ i. f (next i)))))
 
 module _ (r : ReportContent) where
@@ -77,7 +86,7 @@ module _ (r : ReportContent) where
 
   of_representations : pieces r.count (representation_lines r) ≡ flat_map line (representations_from 1 (listed r.count (representation_of r)))
   of_representations = pieces-same r.count (representation_lines r) (λ m. flat_map line (lines_of (1 + to_nat m) (representation_of r m)))
-      (λ m. of_representation m ∙ ap (λ k. flat_map line (lines_of k (representation_of r m))) (one_plus (to_nat m)))
+      (λ m. of_representation m ∙ ap (λ k. flat_map line (lines_of k (representation_of r m))) (from_one (to_nat m)))
       ∙ from-pieces 1 r.count (representation_of r)
 
   of_operations : pieces r.places (operation_line r)
@@ -91,14 +100,12 @@ regroup a b c d p e q f = simp append_assoc
 pub report_text-lines : (r : ReportContent) → report_text r ≡ flat_map line (report_lines (written_of r))
 unfolding report_text
 report_text-lines r =
-    ap₂ (λ p q. with_counts r.places r.count p q) (of_operations r) (of_representations r)
-    ∙ ap₂ (λ h c. with_counts h c operations representations) (sym (length-listed r.places (λ i. triplet_text (r.operation i))))
-    (sym (length-listed r.count (representation_of r)))
+    ap₂ (λ p q. with_parts p q) (of_operations r) (of_representations r)
     ∙ regroup (line (codes "report 1")) (line (codes "wave" ++ next_word (wave_text r.wave))) (line (codes "order" ++ next_word (decimal r.order)))
-    (line (codes "ops" ++ next_word (decimal (length triplets)))) operations
-    (line (codes "reps" ++ next_word (decimal (length all)))) representations (line (codes "end"))
+    (line (codes "ops" ++ next_word (decimal r.places))) operations
+    (line (codes "reps" ++ next_word (decimal r.count))) representations (line (codes "end"))
     ∙ ap (λ t. line (codes "report 1") ++ (line (codes "wave" ++ next_word (wave_text r.wave)) ++ (line (codes "order" ++ next_word (decimal r.order))
-    ++ (line (codes "ops" ++ next_word (decimal (length triplets))) ++ t)))) joined
+    ++ (line (codes "ops" ++ next_word (decimal r.places)) ++ t)))) joined
   where
     triplets : List (List ℕ)
     triplets = listed r.places (λ i. triplet_text (r.operation i))
@@ -112,12 +119,12 @@ report_text-lines r =
     representations : List ℕ
     representations = flat_map line (representations_from 1 all)
 
-    with_counts : ℕ → ℕ → List ℕ → List ℕ → List ℕ
-    with_counts h c p q = line (codes "report 1") ++ line (codes "wave" ++ next_word (wave_text r.wave))
-        ++ line (codes "order" ++ next_word (decimal r.order)) ++ line (codes "ops" ++ next_word (decimal h)) ++ p ++ line (codes "reps" ++ next_word (decimal c)) ++ q ++ line (codes "end")
+    with_parts : List ℕ → List ℕ → List ℕ
+    with_parts p q = line (codes "report 1") ++ line (codes "wave" ++ next_word (wave_text r.wave))
+        ++ line (codes "order" ++ next_word (decimal r.order)) ++ line (codes "ops" ++ next_word (decimal r.places)) ++ p ++ line (codes "reps" ++ next_word (decimal r.count)) ++ q ++ line (codes "end")
 
     counted : List ℕ
-    counted = codes "reps" ++ next_word (decimal (length all))
+    counted = codes "reps" ++ next_word (decimal r.count)
 
     joined : operations ++ (line counted ++ (representations ++ line (codes "end")))
         ≡ flat_map line (numbered_lines triplet_line 1 triplets ++ counted ∷ (representations_from 1 all ++ codes "end" ∷ []))

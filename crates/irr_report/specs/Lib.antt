@@ -3,3 +3,8 @@ pub mod OfList
 pub mod Printed
 pub mod ReportLines
 pub mod PrintedReport
+pub mod ReportGrammar
+pub mod ReportLimits
+pub mod Machine
+pub mod ReportSteps
+pub mod ReadReport

@@ -7,7 +7,7 @@ mod print;
 mod report;
 
 pub use irr_memory::Memory;
-pub use laws::printed_reports_have_lines;
+pub use laws::{one_answer_for_each_report, printed_reports_are_read, printed_reports_have_lines};
 pub use print::print_report;
 pub use report::{RepText, Report};
 
