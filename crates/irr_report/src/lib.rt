@@ -8,7 +8,7 @@ mod report;
 
 pub use irr_memory::Memory;
 pub use laws::{one_answer_for_each_report, printed_reports_are_read, printed_reports_have_lines};
-pub use print::print_report;
+pub use print::{print_report, push_operations};
 pub use report::{RepText, Report};
 
 #[cfg(test)]

@@ -55,7 +55,9 @@ fn head(alloc: Global, wave: &Wave, order: u32, count: usize) -> Result<Vec<u8>,
     Ok(text.into_bytes())
 }
 
-fn push_operations(alloc: Global, text: &mut Vec<u8>, ops: &[Op]) -> Result<(), Memory>
+/// Appends a line for each operation, with its number, from 1, and its coordinate triplet. The error is want
+/// of memory.
+pub fn push_operations(alloc: Global, text: &mut Vec<u8>, ops: &[Op]) -> Result<(), Memory>
     ensures { OnOk result (text.new.items ≡ text.old.items ++ numbered operation_text 1 ops.now) }
 {
     for (i, op) in ops.iter().enumerate() {

@@ -1,9 +1,5 @@
-pub mod WaveForms
-pub mod WaveReading
-pub mod WordPlaces
 pub mod OneAnswer
 pub mod InputBytes
-pub mod Reading
 pub mod Numerators
 pub mod Groups
 pub mod Outcomes
@@ -13,3 +9,9 @@ pub mod Members
 pub mod SmallTexts
 pub mod Reports
 pub mod Numbers
+pub mod RequestWords
+pub mod FirstPieces
+pub mod FirstArms
+pub mod StarTexts
+pub mod Enumerations
+pub mod OneStar

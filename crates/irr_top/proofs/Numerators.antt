@@ -1,8 +1,5 @@
--- The numbers of operations and wave vectors that are read.
+-- The numbers of operations that are read.
 --   small_numbers         numbers over their common denominator are small where those of the single fractions are
---   small_wave            a wave vector within the limits has numerators of at most 10^10 over at most 100,000
---   wave_limits           so the calls on wave vectors take it
---   image_limits          and that to which a rotation carries it
 --   readable_generator    an operation that can be read is a generator
 use Rattle.std.proofs.Common.{◌≡◌, sym, ◌∙◌, ap, ℕ, ◌≤◌, ◌<◌, ◌*◌, ◌^◌, ℤ, pos, ◌*ℤ◌, unsigned_abs, arith}
 use Rattle.std.specs.List.{All}
@@ -15,9 +12,8 @@ use Rattle.irr_rational.specs.Ratio.{AreLowest, IsLowest, entry}
 use Rattle.irr_rational.proofs.Ratios.{cross_of_ratio}
 use Rattle.irr_rational.proofs.ListedRatios.{ratios-at}
 use Rattle.irr_canonical.specs.Coefficient.{denominator}
-use Rattle.irr_space.specs.Operation.{component, wave_component}
+use Rattle.irr_space.specs.Operation.{component}
 use Rattle.irr_text.specs.NumberText.{numerator}
-use Rattle.irr_text.specs.WaveText.{IsWithinLimits}
 use Rattle.irr_text.proofs.RationalForm.{numerator_is_lowest}
 use Rattle.irr_rat.specs.Lowest.{AreThreeLowest}
 use Rattle.irr_rat.proofs.LowestForms.{lowest_divides}
@@ -25,12 +21,8 @@ use Rattle.irr_rat.proofs.Vectors.{component-vector_of}
 use Rattle.irr_seitz.specs.OperationMeaning.{operation}
 use Rattle.irr_seitz.specs.Rotation.{determinant}
 use Rattle.irr_seitz.specs.declared.op.Op.{Op}
-use Rattle.irr_kvec.specs.WaveMeaning.{wave_vector}
-use Rattle.irr_kvec.specs.Centrings.{IsWithinLimits as IsTaken}
-use Rattle.irr_kvec.specs.declared.wave.Wave.{Wave}
 use Rattle.irr_triplet.specs.Readable.{IsReadable}
 use Rattle.irr_close.specs.Closing.{IsGenerator}
-use Rattle.irr_top.proofs.WaveForms.{component-is}
 
 -- a number over a denominator, and the same over another
 under : (a q n d : ℕ) → 0 < q → a * q ≡ n * d → n ≤ 100000 → d ≤ 100000 → a ≤ 10 ^ 10
@@ -60,31 +52,6 @@ module _ (num : List ℤ) (den : ℕ) (f : Fin 3 → Rational) (low : AreThreeLo
           ∙ ap unsigned_abs (cross_of_ratio (entry num i) (numerator (f i)) den (denominator 1 (f i)) low.positive form.0.positive
           (sym (same i) ∙ sym form.1))
           ∙ unsigned_abs-mul (numerator (f i)) (pos den)
-
-module _ (w : Wave) (h : IsWithinLimits 100000 (wave_vector w)) where
-  component-at : (i : Fin 3) → wave_component (wave_vector w) i ≡ ratio (entry w.num i) w.den
-  component-at i = component-is w.num w.den i ∙ ratios-at w.num w.den i
-
-  pub wave_denominator : w.den ≤ 100000
-  wave_denominator = small_denominator w.num w.den (wave_component (wave_vector w)) w.lowest component-at h.numerators h.num h.den h.lowest h.are
-      h.denominator
-
-  pub wave_numbers : (i : Fin 3) → unsigned_abs (entry w.num i) ≤ 10 ^ 10
-  wave_numbers = small_numbers w.num w.den (wave_component (wave_vector w)) w.lowest component-at h.numerators h.num h.den h.lowest h.are
-      h.denominator
-
-  pub wave_limits : IsTaken w
-  wave_limits = record {
-    numerators = λ i. let s : unsigned_abs (entry w.num i) ≤ 10 ^ 10 = wave_numbers i in omega arith;
-    denominator = let s : w.den ≤ 100000 = wave_denominator in omega arith;
-  }
-
-  pub image_limits : (image : Wave) → image.den ≡ w.den → ((b : ℕ) → ((i : Fin 3) → unsigned_abs (entry w.num i) ≤ b) → (i : Fin 3) → unsigned_abs
-      (entry image.num i) ≤ 486 * b) → IsTaken image
-  image_limits image e size = record {
-    numerators = λ i. let s : unsigned_abs (entry image.num i) ≤ 486 * 10 ^ 10 = size (10 ^ 10) wave_numbers i in omega arith;
-    denominator = let s : w.den ≤ 100000 = wave_denominator in omega arith;
-  }
 
 pub readable_generator : (g : Op) → IsReadable (operation g) → IsGenerator g
 readable_generator g h = record {

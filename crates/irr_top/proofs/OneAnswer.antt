@@ -8,23 +8,25 @@ use Rattle.irr_space.specs.Operation.{Operation, WaveVector}
 use Rattle.irr_space.specs.SpaceGroup.{Generated, IsExponent}
 use Rattle.irr_space.specs.Reciprocal.{IsOrder, IsPeriod}
 use Rattle.irr_seitz.specs.declared.op.Op.{Op}
-use Rattle.irr_lines.proofs.AllLines.{lines_unique}
+use Rattle.irr_input.specs.Command.{AreOneCommand}
+use Rattle.irr_input.specs.InputLines.{IsFaultyLine}
+use Rattle.irr_input.specs.declared.input.Reason.{Reason}
+use Rattle.irr_input.proofs.LineLists.{faulty_line_unique, input_or_fault, input_unique}
+use Rattle.irr_input.proofs.WordForms.{faulty_unique, words_unique}
 use Rattle.irr_close.specs.Limits.{operations}
 use Rattle.irr_close.specs.StandsFor.{IsRefusal, IsAccepted}
 use Rattle.irr_close.specs.declared.CloseError.{CloseError}
 use Rattle.irr_close.specs.declared.CloseError.TheVariants.{Rotations as many_rotations, Denominator as large_denominator, Centrings as many_centrings, Memory as no_memory}
-use Rattle.irr_top.specs.Command.{IsCommand, IsFaulty}
-use Rattle.irr_top.specs.Generators.{AreGenerators, SpellsGenerators, IsFaultyLine}
 use Rattle.irr_top.specs.GroupOf.{group_of}
 use Rattle.irr_top.specs.Asked.{Asks, HaveSteps, IsAsked, IsPastLimits, input_limit, order_limit}
-use Rattle.irr_top.specs.Asked.Asks.{usage, too_long, faulty_line, rotations, denominator, centrings, order_too_large, report, unchained}
+use Rattle.irr_top.specs.Asked.Asks.{usage, too_long, faulty_line, rotations, denominator, centrings, order_too_large, star, report, unchained}
+use Rattle.irr_top.specs.Request.{command_of, wave_at, IsCommand, IsFaultyWord}
+use Rattle.irr_top.specs.declared.request.Request.{Request}
+use Rattle.irr_top.specs.declared.request.Request.TheVariants.{Star, Small}
 use Rattle.irr_top.specs.declared.status.Status.{Status}
 use Rattle.irr_top.specs.declared.status.Status.TheVariants.{Done, Usage, BadInput, TooLarge, Memory}
-use Rattle.irr_top.specs.declared.status.Reason.TheVariants.{Shape}
 use Rattle.irr_top.specs.declared.status.Kind.TheVariants.{Bytes, Rotations, Denominator, Centrings, Order}
-use Rattle.irr_top.proofs.WordPlaces.{small_unique, faulty_unique}
-use Rattle.irr_top.proofs.Reading.{spelled_or_faulty, faulty_line_unique}
-use Rattle.irr_top.proofs.SameGenerators.{AreSame, same_generators, operations_same, refusal_along, accepted_along}
+use Rattle.irr_top.proofs.SameGenerators.{AreSame, same_placed, operations_same, refusal_along, accepted_along}
 
 module _ (G : Operation → Type 0) where
   exponent_unique : (d e : ℕ) → IsExponent G d → IsExponent G e → d ≡ e
@@ -43,9 +45,10 @@ Agree s t = (s ≡ t) ⊎ (IsPastLimits s × IsPastLimits t)
 
 -- before the group is made
 data Early (words : List (List ℕ)) (bytes : List ℕ) : Status → Type 0 where
-  words_are_faulty : {n : ℕ} → IsFaulty words n → Early words bytes (Usage n)
+  words_are_faulty : {n : ℕ} → IsFaultyWord words n → Early words bytes (Usage n)
   bytes_are_many : IsCommand words → input_limit < length bytes → Early words bytes (TooLarge Bytes)
-  line_is_faulty : {n : ℕ} → IsCommand words → length bytes ≤ input_limit → IsFaultyLine bytes n → Early words bytes (BadInput n (Shape 0))
+  line_is_faulty : {n : ℕ} {reason : Reason} → IsCommand words → length bytes ≤ input_limit → IsFaultyLine bytes n reason
+      → Early words bytes (BadInput n reason)
 
 -- the status of generators that are refused
 refused_status : CloseError → Status
@@ -65,7 +68,7 @@ data Late (k : WaveVector) (gens : List Op) : Status → Type 0 where
 
 data Stage (words : List (List ℕ)) (bytes : List ℕ) (s : Status) : Type 0 where
   early : Early words bytes s → Stage words bytes s
-  late : (k : WaveVector) (gens : List Op) → IsAsked words bytes k gens → Late k gens s → Stage words bytes s
+  late : (r : Request) (gens : List Op) → IsAsked words bytes r gens → Late (wave_at r) gens s → Stage words bytes s
 
 module _ (words : List (List ℕ)) (bytes : List ℕ) where
   stage : {s : Status} {text : List ℕ} → Asks words bytes s text → Stage words bytes s
@@ -73,18 +76,19 @@ module _ (words : List (List ℕ)) (bytes : List ℕ) where
   stage (usage p) = early (words_are_faulty p)
   stage (too_long c l) = early (bytes_are_many c l)
   stage (faulty_line c l f) = early (line_is_faulty c l f)
-  stage (rotations k gens a r) = late k gens a (refused many_rotations (λ e. cc) r refl)
-  stage (denominator k gens a r) = late k gens a (refused large_denominator (λ e. cc) r refl)
-  stage (centrings k gens a r) = late k gens a (refused many_centrings (λ e. cc) r refl)
-  stage (order_too_large k gens a i o l) = late k gens a (accepted i (order_is_large o l))
-  stage (report k gens r a i o l is) = late k gens a (accepted i (is_within o l tt))
-  stage (unchained k gens T a i o l at u) = late k gens a (accepted i (is_within o l tt))
+  stage (rotations r gens a f) = late r gens a (refused many_rotations (λ e. cc) f refl)
+  stage (denominator r gens a f) = late r gens a (refused large_denominator (λ e. cc) f refl)
+  stage (centrings r gens a f) = late r gens a (refused many_centrings (λ e. cc) f refl)
+  stage (order_too_large r gens a i o l) = late r gens a (accepted i (order_is_large o l))
+  stage (star k gens c a i o l is) = late (Star k) gens a (accepted i (is_within o l tt))
+  stage (report k gens r a i o l is) = late (Small k) gens a (accepted i (is_within o l tt))
+  stage (unchained k gens T a i o l at u) = late (Small k) gens a (accepted i (is_within o l tt))
 
   too_many : (n m : ℕ) → n ≤ m → m < n → ⊥
   too_many n m l h = omega arith
 
   early_unique : {s t : Status} → Early words bytes s → Early words bytes t → s ≡ t
-  early_unique (words_are_faulty {n = m} p) (words_are_faulty {n = n} q) = ap Usage (faulty_unique words m n p q)
+  early_unique (words_are_faulty {n = m} p) (words_are_faulty {n = n} q) = ap Usage (faulty_unique IsCommand words m n p q)
   early_unique (words_are_faulty p) (bytes_are_many c l) = absurd (p.no_command c)
   early_unique (words_are_faulty p) (line_is_faulty c l f) = absurd (p.no_command c)
   early_unique (bytes_are_many c l) (words_are_faulty q) = absurd (q.no_command c)
@@ -92,12 +96,13 @@ module _ (words : List (List ℕ)) (bytes : List ℕ) where
   early_unique (bytes_are_many c l) (line_is_faulty d m f) = absurd (too_many (length bytes) input_limit m l)
   early_unique (line_is_faulty c l f) (words_are_faulty q) = absurd (q.no_command c)
   early_unique (line_is_faulty c l f) (bytes_are_many d m) = absurd (too_many (length bytes) input_limit l m)
-  early_unique (line_is_faulty {n = m} c l f) (line_is_faulty {n = n} d i g) = ap (λ x. BadInput x (Shape 0)) (faulty_line_unique bytes m n f g)
+  early_unique (line_is_faulty {n = m} {reason = r} c l f) (line_is_faulty {n = n} {reason = s} d i g) =
+      let same = faulty_line_unique bytes m n r s f g in ap₂ BadInput same.0 same.1
 
-  early_or_late : {s : Status} (k : WaveVector) (gens : List Op) → Early words bytes s → IsAsked words bytes k gens → ⊥
-  early_or_late k gens (words_are_faulty p) a = p.no_command (k, a.is_small)
-  early_or_late k gens (bytes_are_many c l) a = too_many (length bytes) input_limit a.within l
-  early_or_late k gens (line_is_faulty {n = n} c l f) a = spelled_or_faulty bytes gens n a.spells f
+  early_or_late : {s : Status} (r : Request) (gens : List Op) → Early words bytes s → IsAsked words bytes r gens → ⊥
+  early_or_late r gens (words_are_faulty p) a = p.no_command (r, a.requested)
+  early_or_late r gens (bytes_are_many c l) a = too_many (length bytes) input_limit a.within l
+  early_or_late r gens (line_is_faulty {n = n} {reason = reason} c l f) a = input_or_fault bytes a.lines n reason a.spells f
 
 refusal_unique : (gens : List Op) (d e : CloseError) → d ≢ no_memory → e ≢ no_memory → IsRefusal gens d → IsRefusal gens e → d ≡ e
 refusal_unique gens no_memory e m n p q = absurd (m refl)
@@ -150,17 +155,22 @@ late_along : (k l : WaveVector) (gens hens : List Op) {s : Status} → k ≡ l �
 late_along k l gens hens e same (refused d m p f) = refused d m (refusal_along d same p) f
 late_along k l gens hens e same (accepted a i) = accepted (accepted_along same a) (in_group_along k l gens hens e (operations_same same) i)
 
-same_spelled : (bytes : List ℕ) (gens hens : List Op) → SpellsGenerators bytes gens → SpellsGenerators bytes hens → AreSame gens hens
-same_spelled bytes gens hens s t = same_generators s.are_generators
-    (subst (λ l. AreGenerators l hens) (lines_unique t.are_lines s.are_lines) t.are_generators)
+-- one command names one wave vector
+same_wave : (r q : Request) → AreOneCommand (command_of r) (command_of q) → wave_at r ≡ wave_at q
+same_wave (Star k) (Star l) h = let e = h.arguments in cc
+same_wave (Star k) (Small l) h = let e = h.arguments in cc
+same_wave (Small k) (Star l) h = let e = h.arguments in cc
+same_wave (Small k) (Small l) h = let e = h.arguments in cc
 
 module _ (words : List (List ℕ)) (bytes : List ℕ) where
   stage_unique : {s t : Status} → Stage words bytes s → Stage words bytes t → Agree s t
   stage_unique (early x) (early y) = inl (early_unique words bytes x y)
-  stage_unique (early x) (late k gens a l) = absurd (early_or_late words bytes k gens x a)
-  stage_unique (late k gens a l) (early x) = absurd (early_or_late words bytes k gens x a)
-  stage_unique (late k gens a l) (late j hens b m) = late_unique j hens
-      (late_along k j gens hens (small_unique words k j a.is_small b.is_small) (same_spelled bytes gens hens a.spells b.spells) l) m
+  stage_unique (early x) (late r gens a l) = absurd (early_or_late words bytes r gens x a)
+  stage_unique (late r gens a l) (early x) = absurd (early_or_late words bytes r gens x a)
+  stage_unique (late r gens a l) (late q hens b m) = late_unique (wave_at q) hens
+      (late_along (wave_at r) (wave_at q) gens hens
+      (same_wave r q (words_unique words (command_of r) (command_of q) a.requested b.requested))
+      (same_placed gens hens a.lines b.lines a.are b.are (input_unique bytes a.lines b.lines a.spells b.spells)) l) m
 
   pub asked_status : {s t : Status} {x y : List ℕ} → Asks words bytes s x → Asks words bytes t y → Agree s t
   asked_status p q = stage_unique (stage words bytes p) (stage words bytes q)
@@ -174,6 +184,7 @@ module _ (words : List (List ℕ)) (bytes : List ℕ) where
   done steps (denominator k gens a r) w = absurd w
   done steps (centrings k gens a r) w = absurd w
   done steps (order_too_large k gens a i o l) w = absurd w
+  done steps (star k gens c a i o l is) w = refl
   done steps (report k gens r a i o l is) w = refl
   done steps (unchained {h = h} {members = members} k gens T a i o l at u) w =
       elim (steps k gens a h T at members.items u.subgroup u.more_than_one)

@@ -4,14 +4,14 @@
 use Rattle.std.proofs.Common.{◌≡◌, sym, subst, refl, ℕ, ◌⊎◌, inl, inr, Option, Some, List}
 use Rattle.irr_io.specs.Count.{Rose}
 use Rattle.irr_io.specs.Told.{IsAtEnd}
-use Rattle.irr_top.specs.Command.{IsCommand, IsFaulty}
 use Rattle.irr_top.specs.Asked.{Asks, HaveSteps, IsAllOf, IsPastLimits}
-use Rattle.irr_top.specs.Asked.Asks.{usage, too_long, faulty_line, rotations, denominator, centrings, order_too_large, report, unchained}
+use Rattle.irr_top.specs.Asked.Asks.{usage, too_long, faulty_line, rotations, denominator, centrings, order_too_large, star, report, unchained}
 use Rattle.irr_top.specs.Answered.{HasText, Answers, CutOff, Streams}
 use Rattle.irr_top.specs.Ended.{Ended}
 use Rattle.irr_top.specs.Ended.Ended.{whole, cut_off, no_memory}
 use Rattle.irr_top.specs.Outcome.{Outcome}
 use Rattle.irr_top.specs.Outcome.Outcome.{served, read_fault, no_memory as without_memory}
+use Rattle.irr_top.specs.Request.{IsCommand, IsFaultyWord}
 use Rattle.irr_top.specs.declared.status.Status.{Status}
 use Rattle.irr_top.specs.declared.status.Status.TheVariants.{Done, Usage, ReadFault, WriteFault, Memory}
 use Rattle.irr_top.proofs.OneAnswer.{asked_one, asked_status}
@@ -24,6 +24,7 @@ asked_text (rotations k gens a r) = tt
 asked_text (denominator k gens a r) = tt
 asked_text (centrings k gens a r) = tt
 asked_text (order_too_large k gens a i o l) = tt
+asked_text (star k gens c a i o l is) = tt
 asked_text (report k gens r a i o l is) = tt
 asked_text (unchained k gens T a i o l at u) = tt
 
@@ -122,14 +123,14 @@ module _ (words : List (List ℕ)) (left leaves : Option (List ℕ)) (read_fault
   outcome_asked (without_memory f) bytes text r e q steps = inr (inl refl)
 
   -- faulty words are refused, whatever the input
-  ended_usage : {t s : Status} {text : List ℕ} (bytes : List ℕ) (n : ℕ) → IsFaulty words n → Asks words bytes s text
+  ended_usage : {t s : Status} {text : List ℕ} (bytes : List ℕ) (n : ℕ) → IsFaultyWord words n → Asks words bytes s text
       → Ended s text faults faulted held holds wrote writes t → (t ≡ Usage n) ⊎ ((t ≡ Memory) ⊎ (t ≡ WriteFault))
   ended_usage bytes n p asks (whole g w) = elim (asked_status words bytes asks (usage p)) [ inl e ↦ inl e | inr both ↦ absurd both.1 ]
   ended_usage bytes n p asks (cut_off r g w) = inr (inr refl)
   ended_usage bytes n p asks (no_memory f) = inr (inl refl)
 
   pub outcome_usage : {t : Status} → Outcome words left leaves read_faults read_faulted faults faulted held holds wrote writes t → (n : ℕ)
-      → IsFaulty words n → (t ≡ Usage n) ⊎ ((t ≡ Memory) ⊎ (t ≡ WriteFault))
+      → IsFaultyWord words n → (t ≡ Usage n) ⊎ ((t ≡ Memory) ⊎ (t ≡ WriteFault))
   outcome_usage (served bytes all s f) n p = ended_usage bytes n p s.asks s.ended
   outcome_usage (read_fault c r f) n p = absurd (p.no_command c)
   outcome_usage (without_memory f) n p = inr (inl refl)

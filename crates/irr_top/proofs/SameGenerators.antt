@@ -1,9 +1,9 @@
 -- Generators that one text spells.
 --   AreSame gens hens       they stand for the same operations, one by one
---   same_generators         lines spell the same operations at most
+--   same_placed             the operations on lines are one by one those on lines that say the same
 --   operations_same         so the groups are one
 --   refusal_along, accepted_along     and pass the same limits
-use Rattle.std.proofs.Common.{◌≡◌, refl, sym, ◌∙◌, ap, ap₂, subst, ℕ, ◌≤◌, List, [], ◌∷◌, arith}
+use Rattle.std.proofs.Common.{◌≡◌, refl, sym, ◌∙◌, ap, ap₂, subst, ℕ, ◌≤◌, List, [], ◌∷◌, map, arith}
 use Rattle.std.specs.List.{All}
 use Rattle.std.specs.Int.{◌∣◌}
 use Rattle.std.proofs.lemmas.List.Elements.{All-cons, All-head, All-tail}
@@ -12,22 +12,33 @@ use Rattle.irr_rat.specs.VectorMeaning.{vector_of}
 use Rattle.irr_rat.proofs.CommonDenominators.{lowest_below}
 use Rattle.irr_seitz.specs.OperationMeaning.{operation}
 use Rattle.irr_seitz.specs.declared.op.Op.{Op}
-use Rattle.irr_triplet.proofs.UniqueTriplets.{triplet_unique}
 use Rattle.irr_close.specs.Limits.{operations, HasFewRotations, HasSmallDenominator, HasFewCentrings}
 use Rattle.irr_close.specs.StandsFor.{IsRefusal, IsAccepted}
 use Rattle.irr_close.specs.declared.CloseError.{CloseError}
 use Rattle.irr_close.specs.declared.CloseError.TheVariants.{Rotations, Denominator, Centrings, Memory}
-use Rattle.irr_top.specs.Generators.{AreGenerators}
-use Rattle.irr_top.specs.Generators.AreGenerators.{none, more}
+use Rattle.irr_input.specs.InputLines.{Placed, placed}
+use Rattle.irr_input.specs.declared.input.GenLine.{GenLine}
 
 pub data AreSame : List Op → List Op → Type 0 where
   nothing : AreSame [] []
   pair : {g h : Op} {gens hens : List Op} → operation g ≡ operation h → AreSame gens hens → AreSame (g ∷ gens) (h ∷ hens)
 
-pub same_generators : {lines : List (List ℕ)} {gens hens : List Op} → AreGenerators lines gens → AreGenerators lines hens → AreSame gens hens
-same_generators none none = nothing
-same_generators (more {g = g} h r) (more {g = k} i s) = pair (triplet_unique (operation g) (operation k) h.readable i.readable
-    (sym h.printed ∙ i.printed)) (same_generators r s)
+same_first : (k l : GenLine) (ks ls : List GenLine) → placed (k ∷ ks) ≡ placed (l ∷ ls) → (operation k.op ≡ operation l.op) × (placed ks ≡ placed ls)
+same_first k l ks ls e = (ap (λ (p : Placed). p.operation) (let f : first_placed k ≡ first_placed l = cc in f), cc)
+  where
+    first_placed : GenLine → Placed
+    first_placed g = record { line = g.line; operation = operation g.op }
+
+same_operations : (ks ls : List GenLine) → placed ks ≡ placed ls → AreSame (map (λ g. g.op) ks) (map (λ g. g.op) ls)
+same_operations [] [] e = nothing
+same_operations [] (l ∷ ls) e = absurd (cc)
+same_operations (k ∷ ks) [] e = absurd (cc)
+same_operations (k ∷ ks) (l ∷ ls) e = let both = same_first k l ks ls e in pair both.0 (same_operations ks ls both.1)
+
+pub same_placed : (gens hens : List Op) (ks ls : List GenLine) → gens ≡ map (λ g. g.op) ks → hens ≡ map (λ g. g.op) ls → placed ks ≡ placed ls
+    → AreSame gens hens
+same_placed gens hens ks ls e f h = subst (λ l. AreSame l hens) (sym e)
+    (subst (AreSame (map (λ g. g.op) ks)) (sym f) (same_operations ks ls h))
 
 flipped : {gens hens : List Op} → AreSame gens hens → AreSame hens gens
 flipped nothing = nothing

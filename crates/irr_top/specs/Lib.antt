@@ -1,13 +1,12 @@
 pub mod StatusCode
-pub mod Command
-pub mod Generators
-pub mod InputFaults
+pub mod Request
 pub mod GroupOf
 pub mod LittleTable
 pub mod RefusalText
 pub mod Asked
 pub mod Members
 pub mod SmallText
+pub mod StarText
 pub mod Answered
 pub mod Ended
 pub mod Outcome

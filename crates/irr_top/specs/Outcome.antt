@@ -4,7 +4,7 @@
 use Rattle.std.specs.Prelude.{ℕ, ◌≡◌, Option, List}
 use Rattle.irr_io.specs.Count.{Rose}
 use Rattle.irr_io.specs.Told.{IsAtEnd}
-use Rattle.irr_top.specs.Command.{IsCommand}
+use Rattle.irr_top.specs.Request.{IsCommand}
 use Rattle.irr_top.specs.Asked.{IsAllOf}
 use Rattle.irr_top.specs.Ended.{Serves}
 use Rattle.irr_top.specs.declared.status.Status.{Status}

@@ -7,14 +7,17 @@ use Rattle.std.specs.List.{flat_map}
 use Rattle.std.specs.Fmt.{decimal}
 use Rattle.irr_top.specs.declared.status.Status.{Status}
 use Rattle.irr_top.specs.declared.status.Status.TheVariants.{Done, Usage, BadInput, TooLarge, ReadFault, WriteFault, Memory, Unchained}
-use Rattle.irr_top.specs.declared.status.Reason.{Reason}
-use Rattle.irr_top.specs.declared.status.Reason.TheVariants.{Shape}
+use Rattle.irr_input.specs.declared.input.Reason.{Reason}
+use Rattle.irr_input.specs.declared.input.Reason.TheVariants.{Shape, Zero, Range, Determinant}
 use Rattle.irr_top.specs.declared.status.Kind.{Kind}
 use Rattle.irr_top.specs.declared.status.Kind.TheVariants.{Bytes, Rotations, Denominator, Centrings, Order}
 
--- the reason, with a column, which counts from 1
+-- the reason, with a column where it has one, which counts from 1
 abbrev pub reason_text : Reason → List ℕ
 reason_text (Shape place) = codes "shape " ++ decimal (suc place)
+reason_text (Zero place) = codes "zero " ++ decimal (suc place)
+reason_text (Range place) = codes "range " ++ decimal (suc place)
+reason_text Determinant = codes "determinant"
 
 abbrev pub kind_text : Kind → List ℕ
 kind_text Bytes = codes "bytes"

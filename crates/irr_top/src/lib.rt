@@ -2,22 +2,22 @@
 #![tactic(auto)]
 
 mod answer;
-mod input;
 mod laws;
 mod refusal;
 mod report;
+mod request;
 mod small_group;
 mod small_text;
+mod star_text;
 mod status;
 mod top;
-mod wave;
-mod words;
 
-pub use laws::one_status_is_asked_for;
+pub use irr_input::Reason;
+pub use laws::{one_star_of_a_wave_vector, one_status_is_asked_for};
 pub use refusal::text_refusal;
-pub use status::{Kind, Reason, Status};
+pub use star_text::text_star;
+pub use status::{Kind, Status};
 pub use top::run;
-pub use words::words_mean_one_thing;
 
 #[cfg(test)]
 mod tests;

@@ -4,7 +4,8 @@ ghost use Rattle.std.specs.Fmt.{decimal};
 ghost use Rattle.irr_top.specs.RefusalText.{HasLine, numbers_text, refusal_text};
 ghost use Rattle.irr_top.specs.Ended.{Ended};
 
-use crate::status::{Kind, Reason, Status};
+use crate::status::{Kind, Status};
+use irr_input::Reason;
 use irr_io::{Sink, write_all};
 use irr_memory::Memory;
 use std::alloc::{AllocError, Global};
@@ -45,16 +46,32 @@ fn large_line(alloc: Global, kind: Kind) -> Result<String, AllocError>
     }
 }
 
-// The line of a faulty input. Columns count from 1.
+// The line of a faulty input.
 fn bad_line(alloc: Global, line: u64, reason: Reason) -> Result<String, AllocError>
     ensures { IfOk result (λ text. string_bytes text ≡ refusal_text (Status.BadInput line reason)) }
 {
     match reason {
         Reason::Shape(place) => {
-            let column = u128::from(place) + 1;
+            let column = column_of(place);
             format!(in alloc; "bad input line {line}: shape {column}\n")
         }
+        Reason::Zero(place) => {
+            let column = column_of(place);
+            format!(in alloc; "bad input line {line}: zero {column}\n")
+        }
+        Reason::Range(place) => {
+            let column = column_of(place);
+            format!(in alloc; "bad input line {line}: range {column}\n")
+        }
+        Reason::Determinant => format!(in alloc; "bad input line {line}: determinant\n"),
     }
+}
+
+// The column of a place: columns count from 1.
+fn column_of(place: u64) -> u128
+    ensures { result ≡ suc place }
+{
+    u128::from(place) + 1
 }
 
 // The line of a subgroup that has no normal subgroup of index 2 or 3. Its members count from 1 in print.

@@ -71,8 +71,8 @@ fn report_of<S: Scalar>(
     })
 }
 
-// The operations of the little group, in the order of the table.
-fn operations(alloc: Global, group: &Group, t: &Twisted) -> Result<Vec<Op>, Memory>
+/// The operations of the little group, in the order of the table. The error is want of memory.
+pub(crate) fn operations(alloc: Global, group: &Group, t: &Twisted) -> Result<Vec<Op>, Memory>
     requires places { (p : ℕ) → Contains (operation_places t.now) p → p < length group.now.ops.items }
     ensures count { IfOk result (λ ops. length ops.items ≡ place_count t.now) }
     ensures ops { IfOk result (λ ops. (a : ℕ) (d : Op) → a < place_count t.now

@@ -1,13 +1,12 @@
 // The text of the report of the small representations at a wave vector.
 ghost use Rattle.std.specs.Prelude.{ℕ, ◌≡◌, ◌≤◌, List, IfOk, IfErr};
-ghost use Rattle.irr_text.specs.WaveText.{IsWithinLimits};
 ghost use Rattle.irr_seitz.specs.declared.op.Op.{Op};
+ghost use Rattle.irr_kvec.specs.Centrings.{IsWithinLimits};
 ghost use Rattle.irr_kvec.specs.WaveMeaning.{wave_vector};
 ghost use Rattle.irr_close.specs.declared.group.Group.{Group};
 ghost use Rattle.irr_cyc.specs.declared.orders.TheConstants.{ORDER_LIMIT};
 ghost use Rattle.irr_rep.specs.Twisted.{phase_table, place_count, operation_places};
 ghost use Rattle.irr_little.specs.Table.{IsLittleTable, listed_operations};
-ghost use Rattle.irr_top.specs.Command.{wave_limit};
 ghost use Rattle.irr_top.specs.GroupOf.{IsGroupOf};
 ghost use Rattle.irr_top.specs.SmallText.{IsListText, IsTableRefusal, IsSmallText, IsNoReport};
 ghost use Rattle.irr_top.specs.declared.small_text.NoReport.TheVariants.{Memory as want_of_memory};
@@ -49,7 +48,7 @@ impl From<Memory> for NoReport {
 /// The text of the report at a wave vector of a group.
 pub(crate) fn small_text(alloc: Global, group: &Group, k: &Wave) -> Result<Vec<u8>, NoReport>
     requires group { (gens : List Op) × IsGroupOf group.now gens }
-    requires limits { IsWithinLimits wave_limit (wave_vector k.now) }
+    requires limits { IsWithinLimits k.now }
     ensures text { (gens : List Op) → IsGroupOf group.now gens → IfOk result (λ text. IsSmallText gens (wave_vector k.now) text.items) }
     ensures none { (gens : List Op) → IsGroupOf group.now gens → IfErr result (IsNoReport gens (wave_vector k.now)) }
 {

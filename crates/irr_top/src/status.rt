@@ -1,6 +1,8 @@
 // How a run ends.
 ghost use Rattle.std.specs.Prelude.{◌≡◌};
 
+use irr_input::Reason;
+
 /// Which limit was passed.
 #[derive(Clone, Copy, Debug, PartialEq, Eq)]
 pub enum Kind {
@@ -14,13 +16,6 @@ pub enum Kind {
     Centrings,
     /// The order of the numbers, which is above 12,000.
     Order(u64),
-}
-
-/// Why a line is faulty.
-#[derive(Clone, Copy, Debug, PartialEq, Eq)]
-pub enum Reason {
-    /// The line leaves the grammar at this place, counted in bytes from 0.
-    Shape(u64),
 }
 
 /// How a run ends.

@@ -1,3 +1,5 @@
+mod quoted;
+
 use super::*;
 use irr_io::{MemSink, MemSource};
 use irr_lines::next_line;
@@ -30,10 +32,15 @@ fn ran(
     Ok((status, held))
 }
 
+// What a command at a wave vector writes on this input, and its status.
+fn at(alloc: Global, command: &str, input: &str, wave: &str) -> Result<(Status, Vec<u8>), Fail> {
+    let bytes = Vec::from_slice(alloc, input.as_bytes())?;
+    ran(alloc, &[command, wave], bytes, Vec::new(alloc), 1 << 20)
+}
+
 // What `small` at a wave vector writes on this input, and its status.
 fn small_at(alloc: Global, input: &str, wave: &str) -> Result<(Status, Vec<u8>), Fail> {
-    let bytes = Vec::from_slice(alloc, input.as_bytes())?;
-    ran(alloc, &["small", wave], bytes, Vec::new(alloc), 1 << 20)
+    at(alloc, "small", input, wave)
 }
 
 // Whether the lines of a text that begin with a word are these, or begin with these.
@@ -73,12 +80,22 @@ fn the_small_representation_is_reported(rt: HostRuntime) -> Result<(), Fail> {
         ("", "-1/8,0,0", "7/8,0,0", 8),
         ("", "1/241,0,0", "1/241,0,0", 241),
         ("", "5/2,-7/3,4", "1/2,2/3,0", 6),
+        ("", "+15/30, 2/6\t,03/15", "1/2,1/3,1/5", 30),
         (INVERSION, "1/8,0,0", "1/8,0,0", 16),
         (INVERSION, "-1/8,0,0", "7/8,0,0", 16),
         ("-x,-y,-z\r\n", "1/8,0,0", "1/8,0,0", 16),
         ("-x,-y,-z", "1/8,0,0", "1/8,0,0", 16),
+        (
+            "# P-1\n\n \t\n\t# again\n -x , - y,-1Z \r\n\r\n",
+            "1/8,0,0",
+            "1/8,0,0",
+            16,
+        ),
+        ("'-x,-y,-z'\n\"x,y,z\"\n", "1/8,0,0", "1/8,0,0", 16),
         (SCREW, "1/21,0,0", "1/21,0,0", 42),
         ("x+1/32,y,z\n", "0,0,0", "0,0,0", 1),
+        ("x+50000/100000,y+1/3,z\n", "0,0,0", "0,0,0", 1),
+        ("1 x,y,z\n", "0,0,0", "0,0,0", 1),
         ("x+1/32,y,z\n", "-32/11999,0,0", "383936/11999,0,0", 11999),
     ] {
         let (status, text) = small_at(rt.alloc(), input, word)?;
@@ -118,6 +135,57 @@ fn a_screw_axis_at_the_zone_face(rt: HostRuntime) -> Result<(), Fail> {
     assert_eq!(rt; status.code(), 6);
     assert!(rt; SCREW_REPORT.as_bytes().starts_with(text.as_slice()));
     assert_eq!(rt; text.len(), 100);
+    Ok(())
+}
+
+// The star and the little group of the screw axis at the face of the zone: its square is a translation with the phase z^2.
+const SCREW_STAR: &str =
+    "star 1\nwave 0,1/2,0\norder 4\narms 1\narm 1 0,1/2,0 x,y,z\nops 2\nop 1 x,y,z\nop 2 -x,y+1/2,-z\n\
+    factor 1 1:0 2:0\nfactor 2 2:0 1:2\nend\n";
+
+// Two arms, which the inversion exchanges.
+const INVERSION_STAR: &str =
+    "star 1\nwave 1/4,0,0\norder 8\narms 2\narm 1 1/4,0,0 x,y,z\narm 2 3/4,0,0 -x,-y,-z\n\
+    ops 1\nop 1 x,y,z\nfactor 1 1:0\nend\n";
+
+#[test]
+fn stars_are_written_whole(rt: HostRuntime) -> Result<(), Fail> {
+    for (input, wave, expected) in [
+        (SCREW, "0,1/2,0", SCREW_STAR),
+        (SCREW, "1,-1/2,0", SCREW_STAR),
+        (INVERSION, "1/4,0,0", INVERSION_STAR),
+    ] {
+        let (status, text) = at(rt.alloc(), "star", input, wave)?;
+        assert_eq!(rt; status, Status::Done, "at {wave}");
+        assert_eq!(rt; text.as_slice(), expected.as_bytes(), "at {wave}");
+    }
+    Ok(())
+}
+
+// The reciprocal lattice depends on the centring.
+#[test]
+fn stars_of_a_reciprocal_lattice_vector(rt: HostRuntime) -> Result<(), Fail> {
+    let centred = "-y,x,z\nz,x,y\n-x,-y,-z\nx+1/2,y+1/2,z+1/2\n";
+    for (input, wave, order, ops) in [
+        (CUBIC, "wave 0,0,0", "order 12", "ops 48"),
+        (centred, "wave 0,0,1", "order 24", "ops 48"),
+        ("x+1/2,y,z\n", "wave 1,0,0", "order 2", "ops 1"),
+    ] {
+        let (status, text) = at(rt.alloc(), "star", input, "1,0,0")?;
+        assert_eq!(rt; status, Status::Done, "at {wave}");
+        assert!(rt; lines_are(&text, "wave ", &[wave], true));
+        assert!(rt; lines_are(&text, "order ", &[order], true));
+        assert!(rt; lines_are(&text, "arms ", &["arms 1"], true));
+        assert!(rt; lines_are(&text, "ops ", &[ops], true));
+    }
+    Ok(())
+}
+
+#[test]
+fn a_triplet_is_read_as_a_database_writes_it(rt: HostRuntime) -> Result<(), Fail> {
+    let (_, text) = small_at(rt.alloc(), "' 1/2-X , +y, Z+1/2 '\n", "0,0,0")?;
+    let ops = ["op 1 x,y,z", "op 2 -x+1/2,y,z+1/2"];
+    assert!(rt; lines_are(&text, "op ", &ops, true));
     Ok(())
 }
 
@@ -328,6 +396,13 @@ fn words_are_refused(rt: HostRuntime) -> Result<(), Fail> {
         (&["small"], "usage 2\n"),
         (&["small", "1/2,0"], "usage 2\n"),
         (&["small", "0,0,0", "0"], "usage 3\n"),
+        (&["small", " 0,0,0"], "usage 2\n"),
+        (&["star"], "usage 2\n"),
+        (&["star", "1/2,0"], "usage 2\n"),
+        (&["star", "1/0,0,0"], "usage 2\n"),
+        (&["star", "0,0,0", "0"], "usage 3\n"),
+        (&["full", "0,0,0"], "usage 1\n"),
+        (&["check", "0"], "usage 1\n"),
     ] {
         let (status, text) = ran(
             rt.alloc(),
@@ -345,10 +420,35 @@ fn words_are_refused(rt: HostRuntime) -> Result<(), Fail> {
 #[test]
 fn inputs_are_refused(rt: HostRuntime) -> Result<(), Fail> {
     for (input, wave, code, line) in [
-        ("-x,-y,-z\n\n", "0,0,0", 3, "bad input line 2: shape 1\n"),
-        ("#\n", "0,0,0", 3, "bad input line 1: shape 1\n"),
-        ("-x,-y,-z\nx,y\n", "0,0,0", 3, "bad input line 2: shape 1\n"),
-        ("-x,-y,-z\r", "0,0,0", 3, "bad input line 1: shape 1\n"),
+        ("-x,-y,-z\nx,y\n", "0,0,0", 3, "bad input line 2: shape 4\n"),
+        (
+            "-x,-y,-z\nx,x,z\n",
+            "0,0,0",
+            3,
+            "bad input line 2: determinant\n",
+        ),
+        (
+            "-x,-y,-z\nx+1/0,y,z\n",
+            "0,0,0",
+            3,
+            "bad input line 2: zero 5\n",
+        ),
+        (
+            "-x,-y,-z\nx+100001,y,z",
+            "0,0,0",
+            3,
+            "bad input line 2: range 3\n",
+        ),
+        (
+            "#\n\n\t \nx+1/400,y+1/401,z \n",
+            "0,0,0",
+            3,
+            "bad input line 4: range 19\n",
+        ),
+        ("\n'x,y,z\"\r\n", "0,0,0", 3, "bad input line 2: shape 7\n"),
+        ("-x,-y,-z\r", "0,0,0", 3, "bad input line 1: shape 9\n"),
+        ("-10X,y,z\n", "0,0,0", 3, "bad input line 1: range 2\n"),
+        ("  subgroup\n", "0,0,0", 3, "bad input line 1: shape 3\n"),
         (CUBIC, "1/1001,0,0", 4, "too large: order 12012\n"),
         ("x+y,y,z\n", "0,0,0", 4, "too large: rotations\n"),
         (
@@ -380,6 +480,17 @@ fn input_is_limited_and_faults_are_told(rt: HostRuntime) -> Result<(), Fail> {
     assert_eq!(rt; status.code(), 4);
     assert_eq!(rt; text.as_slice(), b"too large: bytes\n".as_slice());
 
+    let comment = vec![in rt.alloc(); b'#'; 4_194_304]?;
+    let (status, text) = ran(
+        rt.alloc(),
+        &["small", "0,0,0"],
+        comment,
+        Vec::new(rt.alloc()),
+        1000,
+    )?;
+    assert_eq!(rt; status, Status::Done);
+    assert_eq!(rt; text.as_slice(), report(rt.alloc(), "0,0,0", 1)?.as_bytes());
+
     let fails = vec![in rt.alloc(); 0]?;
     let (status, text) = ran(
         rt.alloc(),
@@ -406,12 +517,16 @@ fn input_is_limited_and_faults_are_told(rt: HostRuntime) -> Result<(), Fail> {
 #[test]
 fn a_line_of_a_refusal_is_made(rt: HostRuntime) -> Result<(), Fail> {
     one_status_is_asked_for();
-    let status = Status::BadInput {
-        line: 2,
-        reason: Reason::Shape(3),
-    };
-    let line = text_refusal(rt.alloc(), &status)?;
-    assert_eq!(rt; line.as_slice(), b"bad input line 2: shape 4\n".as_slice());
+    for (reason, expected) in [
+        (Reason::Shape(3), "bad input line 2: shape 4\n"),
+        (Reason::Zero(4), "bad input line 2: zero 5\n"),
+        (Reason::Range(2), "bad input line 2: range 3\n"),
+        (Reason::Determinant, "bad input line 2: determinant\n"),
+    ] {
+        let status = Status::BadInput { line: 2, reason };
+        let line = text_refusal(rt.alloc(), &status)?;
+        assert_eq!(rt; line.as_slice(), expected.as_bytes());
+    }
     let status = Status::Unchained(vec![in rt.alloc(); 0, 2, 11]?);
     let line = text_refusal(rt.alloc(), &status)?;
     assert_eq!(rt; line.as_slice(), b"unchained: 1 3 12\n".as_slice());

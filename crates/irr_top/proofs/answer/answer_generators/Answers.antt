@@ -1,6 +1,5 @@
 -- What is answered where the generators are known.
 use Rattle.std.proofs.Common.{refl}
-use Rattle.irr_kvec.specs.WaveMeaning.{wave_vector}
 use Rattle.irr_top.specs.RefusalText.{refusal_text}
 use Rattle.irr_top.specs.Asked.Asks.{rotations, denominator, centrings}
 use Rattle.irr_top.specs.Ended.Replies.{serves, without_memory}
@@ -29,7 +28,7 @@ pub returns-in-Err-Rotations : goal.returns-in-Err-Rotations
 returns-in-Err-Rotations g c = λ words bytes a. serves (record {
   status = TooLarge Rotations;
   text = refusal_text (TooLarge Rotations);
-  asks = rotations (wave_vector c.args.wave.now) c.args.gens.now a
+  asks = rotations c.args.request.now c.args.gens.now a
       (let f = rw c.in-Err-Rotations.field-0-is at c.in-Err-Rotations.ensures.refused in f);
   ended = c.refuse.ensures;
 })
@@ -38,7 +37,7 @@ pub returns-in-Err-Denominator : goal.returns-in-Err-Denominator
 returns-in-Err-Denominator g c = λ words bytes a. serves (record {
   status = TooLarge Denominator;
   text = refusal_text (TooLarge Denominator);
-  asks = denominator (wave_vector c.args.wave.now) c.args.gens.now a
+  asks = denominator c.args.request.now c.args.gens.now a
       (let f = rw c.in-Err-Denominator.field-0-is at c.in-Err-Denominator.ensures.refused in f);
   ended = c.refuse-in-Err-Denominator.ensures;
 })
@@ -47,7 +46,7 @@ pub returns-in-Err-Centrings : goal.returns-in-Err-Centrings
 returns-in-Err-Centrings g c = λ words bytes a. serves (record {
   status = TooLarge Centrings;
   text = refusal_text (TooLarge Centrings);
-  asks = centrings (wave_vector c.args.wave.now) c.args.gens.now a
+  asks = centrings c.args.request.now c.args.gens.now a
       (let f = rw c.in-Err-Centrings.field-0-is at c.in-Err-Centrings.ensures.refused in f);
   ended = c.refuse-in-Err-Centrings.ensures;
 })

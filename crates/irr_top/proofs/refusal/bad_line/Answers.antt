@@ -1,29 +1,57 @@
--- The line of a faulty input.
-use borrow.Enum.Total as total
-use Rattle.std.proofs.Common.{◌≡◌, ◌+◌, ℕ, suc, sym, ◌∙◌, ap, add-one, append_assoc, subst, List, ◌++◌, ◌∷◌, [], IfOk, string_bytes}
-use Rattle.irr_top.specs.contracts.status.Reason as reason
-use Rattle.irr_top.specs.declared.status.Reason.{Reason}
-use Rattle.irr_top.specs.declared.status.Reason.TheVariants.{Shape}
-use Rattle.irr_top.specs.RefusalText.{reason_text}
+-- The line of a faulty input: its literal pieces in one, and the column of a place.
+use Rattle.std.proofs.Common.{◌≡◌, sym, subst, List, ℕ, ◌++◌, ◌∷◌, [], append_assoc, IfOk, string_bytes}
 use Rattle.std.specs.Prelude.{codes}
 use Rattle.std.specs.Fmt.{decimal}
+use Rattle.irr_top.specs.RefusalText.{refusal_text}
+use Rattle.irr_top.specs.declared.status.Status.TheVariants.{BadInput}
 use Rattle.irr_top.proofs.refusal.bad_line.Goals as goal
-
--- the text of a reason, whose only variant has a place
-text_of_reason : (r : Reason) (place : ℕ) → place ≡ (total.values_d reason.enum 0 (0, tt) r).0 → reason_text r ≡ codes "shape " ++ decimal (place + 1)
-text_of_reason (Shape p) place e = ap (λ n. codes "shape " ++ decimal n) (ap suc (sym e) ∙ sym (add-one place))
 
 regroup : (p a s y n : List ℕ) → p ++ (a ++ (s ++ (y ++ n))) ≡ p ++ a ++ s ++ y ++ n
 regroup p a s y n = simp append_assoc
 
 -- the pieces in one grouping and in the other
-grouped : (a b : List ℕ) → codes "bad input line " ++ (a ++ (codes ": shape " ++ (b ++ 10 ∷ []))) ≡ codes "bad input line " ++ a ++ codes ": " ++
+shape_pieces : (a b : List ℕ) → codes "bad input line " ++ (a ++ (codes ": shape " ++ (b ++ 10 ∷ []))) ≡ codes "bad input line " ++ a ++ codes ": " ++
     (codes "shape " ++ b) ++ 10 ∷ []
-grouped a b = regroup (codes "bad input line ") a (codes ": ") (codes "shape " ++ b) (10 ∷ [])
+shape_pieces a b = regroup (codes "bad input line ") a (codes ": ") (codes "shape " ++ b) (10 ∷ [])
 
-pub returns : goal.returns
-returns c =
-    let X : List ℕ → Type 0 = λ text. IfOk c.format.result (λ s. string_bytes s ≡ text) in
-    subst X (grouped (decimal c.args.line) (decimal (c.from.result + 1)) ∙ ap
-    (λ text. codes "bad input line " ++ decimal c.args.line ++ codes ": " ++ text ++ 10 ∷ [])
-    (sym (text_of_reason c.args.reason c.from.result c.from.ensures))) c.format.ensures.ok
+zero_pieces : (a b : List ℕ) → codes "bad input line " ++ (a ++ (codes ": zero " ++ (b ++ 10 ∷ []))) ≡ codes "bad input line " ++ a ++ codes ": " ++
+    (codes "zero " ++ b) ++ 10 ∷ []
+zero_pieces a b = regroup (codes "bad input line ") a (codes ": ") (codes "zero " ++ b) (10 ∷ [])
+
+range_pieces : (a b : List ℕ) → codes "bad input line " ++ (a ++ (codes ": range " ++ (b ++ 10 ∷ []))) ≡ codes "bad input line " ++ a ++ codes ": " ++
+    (codes "range " ++ b) ++ 10 ∷ []
+range_pieces a b = regroup (codes "bad input line ") a (codes ": ") (codes "range " ++ b) (10 ∷ [])
+
+determinant_pieces : (a : List ℕ) → codes "bad input line " ++ (a ++ codes ": determinant\n") ≡ codes "bad input line " ++ a ++ codes ": " ++
+    codes "determinant" ++ 10 ∷ []
+determinant_pieces a = regroup (codes "bad input line ") a (codes ": ") (codes "determinant") (10 ∷ [])
+
+pub returns-in-Shape : goal.returns-in-Shape
+returns-in-Shape c =
+    subst (λ r. IfOk c.format.result (λ s. string_bytes s ≡ refusal_text (BadInput c.args.line r))) (sym c.in-Shape.is)
+    (subst (λ n. IfOk c.format.result (λ s. string_bytes s ≡ codes "bad input line " ++ decimal c.args.line ++ codes ": " ++ (codes "shape " ++ decimal n) ++ 10 ∷ []))
+    c.column_of-column.ensures
+    (subst (λ text. IfOk c.format.result (λ s. string_bytes s ≡ text)) (shape_pieces (decimal c.args.line) (decimal c.column_of-column.result))
+    c.format.ensures.ok))
+
+pub returns-in-Zero : goal.returns-in-Zero
+returns-in-Zero c =
+    subst (λ r. IfOk c.format-in-Zero.result (λ s. string_bytes s ≡ refusal_text (BadInput c.args.line r))) (sym c.in-Zero.is)
+    (subst (λ n. IfOk c.format-in-Zero.result (λ s. string_bytes s ≡ codes "bad input line " ++ decimal c.args.line ++ codes ": " ++ (codes "zero " ++ decimal n) ++ 10 ∷ []))
+    c.column_of-column-in-Zero.ensures
+    (subst (λ text. IfOk c.format-in-Zero.result (λ s. string_bytes s ≡ text)) (zero_pieces (decimal c.args.line) (decimal c.column_of-column-in-Zero.result))
+    c.format-in-Zero.ensures.ok))
+
+pub returns-in-Range : goal.returns-in-Range
+returns-in-Range c =
+    subst (λ r. IfOk c.format-in-Range.result (λ s. string_bytes s ≡ refusal_text (BadInput c.args.line r))) (sym c.in-Range.is)
+    (subst (λ n. IfOk c.format-in-Range.result (λ s. string_bytes s ≡ codes "bad input line " ++ decimal c.args.line ++ codes ": " ++ (codes "range " ++ decimal n) ++ 10 ∷ []))
+    c.column_of-column-in-Range.ensures
+    (subst (λ text. IfOk c.format-in-Range.result (λ s. string_bytes s ≡ text)) (range_pieces (decimal c.args.line) (decimal c.column_of-column-in-Range.result))
+    c.format-in-Range.ensures.ok))
+
+pub returns-in-Determinant : goal.returns-in-Determinant
+returns-in-Determinant c =
+    subst (λ r. IfOk c.format-in-Determinant.result (λ s. string_bytes s ≡ refusal_text (BadInput c.args.line r))) (sym c.in-Determinant.is)
+    (subst (λ text. IfOk c.format-in-Determinant.result (λ s. string_bytes s ≡ text)) (determinant_pieces (decimal c.args.line))
+    c.format-in-Determinant.ensures.ok)

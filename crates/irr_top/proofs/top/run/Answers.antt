@@ -1,6 +1,7 @@
 -- The clauses of the top call, from how its command ends.
-use Rattle.std.proofs.Common.{ℕ, List, Option, map}
-use Rattle.irr_top.specs.Command.{IsFaulty}
+use Rattle.std.proofs.Common.{ℕ, List, Option}
+use Rattle.irr_input.specs.Command.{texts}
+use Rattle.irr_top.specs.Request.{IsFaultyWord}
 use Rattle.irr_top.specs.Ended.{Ended}
 use Rattle.irr_top.specs.declared.status.Status.{Status}
 use Rattle.irr_top.specs.RefusalText.{refusal_text}
@@ -14,34 +15,34 @@ use Rattle.irr_top.proofs.top.run.Goals as goal
 
 pub returns-in-Ok-clause-answered : goal.returns-in-Ok-clause-answered
 returns-in-Ok-clause-answered g c = outcome_answers _ _ _ _ _ _ _ _ _ _ _
-    (c.small.ensures.outcome (map (λ w. w.items) c.args.words.now) c.in-Ok.ensures.small)
+    (c.answer.ensures.outcome (texts c.args.words.now) c.in-Ok.ensures.requested)
 
 pub returns-in-Ok-clause-read_fault : goal.returns-in-Ok-clause-read_fault
 returns-in-Ok-clause-read_fault g c = outcome_read_fault _ _ _ _ _ _ _ _ _ _ _
-    (c.small.ensures.outcome (map (λ w. w.items) c.args.words.now) c.in-Ok.ensures.small)
+    (c.answer.ensures.outcome (texts c.args.words.now) c.in-Ok.ensures.requested)
 
 pub returns-in-Ok-clause-write_fault : goal.returns-in-Ok-clause-write_fault
 returns-in-Ok-clause-write_fault g c = outcome_write_fault _ _ _ _ _ _ _ _ _ _ _
-    (c.small.ensures.outcome (map (λ w. w.items) c.args.words.now) c.in-Ok.ensures.small)
+    (c.answer.ensures.outcome (texts c.args.words.now) c.in-Ok.ensures.requested)
 
 pub returns-in-Ok-clause-memory : goal.returns-in-Ok-clause-memory
 returns-in-Ok-clause-memory g c = outcome_memory _ _ _ _ _ _ _ _ _ _ _
-    (c.small.ensures.outcome (map (λ w. w.items) c.args.words.now) c.in-Ok.ensures.small)
+    (c.answer.ensures.outcome (texts c.args.words.now) c.in-Ok.ensures.requested)
 
 pub returns-in-Ok-clause-usage : goal.returns-in-Ok-clause-usage
 returns-in-Ok-clause-usage g c = outcome_usage _ _ _ _ _ _ _ _ _ _ _
-    (c.small.ensures.outcome (map (λ w. w.items) c.args.words.now) c.in-Ok.ensures.small)
+    (c.answer.ensures.outcome (texts c.args.words.now) c.in-Ok.ensures.requested)
 
 pub returns-in-Ok-clause-asked : goal.returns-in-Ok-clause-asked
 returns-in-Ok-clause-asked g c = outcome_asked _ _ _ _ _ _ _ _ _ _ _
-    (c.small.ensures.outcome (map (λ w. w.items) c.args.words.now) c.in-Ok.ensures.small)
+    (c.answer.ensures.outcome (texts c.args.words.now) c.in-Ok.ensures.requested)
 
 pub returns-in-Ok-clause-end : goal.returns-in-Ok-clause-end
-returns-in-Ok-clause-end g c = outcome_end _ _ _ _ _ _ _ _ _ _ _ (c.small.ensures.outcome (map (λ w. w.items) c.args.words.now) c.in-Ok.ensures.small)
+returns-in-Ok-clause-end g c = outcome_end _ _ _ _ _ _ _ _ _ _ _ (c.answer.ensures.outcome (texts c.args.words.now) c.in-Ok.ensures.requested)
 
 -- faulty words, of which the input is not read
 refused : {words : List (List ℕ)} {n faults faulted : ℕ} {held holds : Option (List ℕ)} {wrote writes : Option ℕ} {t : Status}
-    (left : Option (List ℕ)) (read_faults : ℕ) → IsFaulty words n
+    (left : Option (List ℕ)) (read_faults : ℕ) → IsFaultyWord words n
     → Ended (Usage n) (refusal_text (Usage n)) faults faulted held holds wrote writes t
     → Outcome words left left read_faults read_faults faults faulted held holds wrote writes t
 refused {n = n} left read_faults f e = let b = some_bytes left in

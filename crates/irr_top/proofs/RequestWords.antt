@@ -1,0 +1,108 @@
+-- Which words are a request, and which word is the first faulty one.
+--   served_command       a command whose verb is served is a request
+--   faulty_unserved      the first word is that of no command that is served, or there is none
+--   faulty_served        behind the word of a command that is served, a word is faulty where it is for all commands
+use Rattle.std.proofs.Common.{◌≡◌, refl, sym, ◌∙◌, ap, subst, ℕ, zero, suc, ◌≤◌, ◌⊎◌, inl, inr, List, [], ◌∷◌, ◌++◌, length, take, arith}
+use Rattle.std.specs.Prelude.{codes}
+use Rattle.irr_grammar.specs.ShapePlace.{BeginsIn}
+use Rattle.irr_input.specs.Command.{AreWords, IsFaulty, verb_of, verb_word, IsCommand as IsAnyCommand}
+use Rattle.irr_input.specs.declared.words.Command.{Command}
+use Rattle.irr_input.specs.declared.words.Command.TheVariants as commands
+use Rattle.irr_input.proofs.WaveTexts.{zero-text, zero_wave}
+use Rattle.irr_input.proofs.WordForms.{verb_unique}
+use Rattle.irr_top.specs.Request.{BeginsServed, IsCommand, IsFaultyWord, IsServed}
+use Rattle.irr_top.specs.declared.request.Request.TheVariants.{Star, Small}
+
+served_command : (words : List (List ℕ)) (c : Command) → AreWords words c → IsServed c → IsCommand words
+served_command words (commands.Star k) a v = (Star k, a)
+served_command words (commands.Small k) a v = (Small k, a)
+served_command words (commands.Full k) a v = absurd v
+served_command words (commands.Product k l) a v = absurd v
+served_command words (commands.Subduce k) a v = absurd v
+served_command words (commands.Compat k l m) a v = absurd v
+served_command words commands.Check a v = absurd v
+served_command words (commands.Gen n) a v = absurd v
+
+-- a command with the word of one that is served
+same_served : (c d : Command) → IsServed d → verb_of c ≡ verb_of d → IsServed c
+same_served (commands.Star k) d v e = tt
+same_served (commands.Small k) d v e = tt
+same_served (commands.Full k) (commands.Star l) v e = cc
+same_served (commands.Full k) (commands.Small l) v e = cc
+same_served (commands.Product k m) (commands.Star l) v e = cc
+same_served (commands.Product k m) (commands.Small l) v e = cc
+same_served (commands.Subduce k) (commands.Star l) v e = cc
+same_served (commands.Subduce k) (commands.Small l) v e = cc
+same_served (commands.Compat k m n) (commands.Star l) v e = cc
+same_served (commands.Compat k m n) (commands.Small l) v e = cc
+same_served commands.Check (commands.Star l) v e = cc
+same_served commands.Check (commands.Small l) v e = cc
+same_served (commands.Gen n) (commands.Star l) v e = cc
+same_served (commands.Gen n) (commands.Small l) v e = cc
+same_served c (commands.Full l) v e = absurd v
+same_served c (commands.Product l m) v e = absurd v
+same_served c (commands.Subduce l) v e = absurd v
+same_served c (commands.Compat l m n) v e = absurd v
+same_served c commands.Check v e = absurd v
+same_served c (commands.Gen n) v e = absurd v
+
+any_command : (words : List (List ℕ)) → IsCommand words → IsAnyCommand words
+any_command words (Star k, a) = (commands.Star k, a)
+any_command words (Small k, a) = (commands.Small k, a)
+
+-- the first word of a command is that of its verb
+first_word : (first : List ℕ) (ws : List (List ℕ)) (c : Command) → AreWords (first ∷ ws) c → first ≡ verb_word (verb_of c)
+first_word first ws c a = let e : first ∷ ws ≡ verb_word (verb_of c) ∷ a.behind = a.spelled in cc
+
+begins : (words : List (List ℕ)) → IsCommand words → BeginsServed words
+begins [] (Star k, a) = let e : [] ≡ codes "star" ∷ a.behind = a.spelled in cc
+begins [] (Small k, a) = let e : [] ≡ codes "small" ∷ a.behind = a.spelled in cc
+begins (first ∷ ws) (Star k, a) = inl (first_word first ws (commands.Star k) a)
+begins (first ∷ ws) (Small k, a) = inr (first_word first ws (commands.Small k) a)
+
+served_first : (first : List ℕ) (ws : List (List ℕ)) (c : Command) → BeginsServed (first ∷ ws) → AreWords (first ∷ ws) c → IsServed c
+served_first first ws c (inl e) a = same_served c (commands.Star zero_wave) tt
+    (verb_unique (verb_of c) (verb_of (commands.Star zero_wave)) (sym (first_word first ws c a) ∙ e))
+served_first first ws c (inr e) a = same_served c (commands.Small zero_wave) tt
+    (verb_unique (verb_of c) (verb_of (commands.Small zero_wave)) (sym (first_word first ws c a) ∙ e))
+
+some_command : IsCommand (codes "star" ∷ codes "0,0,0" ∷ [])
+some_command = (Star zero_wave, record { behind = codes "0,0,0" ∷ []; spelled = refl; are_arguments = (zero-text, tt) })
+
+begins_none : BeginsIn IsCommand []
+begins_none = (codes "star" ∷ codes "0,0,0" ∷ [], some_command)
+
+pub faulty_unserved : (words : List (List ℕ)) → ¬ (BeginsServed words) → IsFaultyWord words 1
+faulty_unserved words n = record {
+  no_command = λ h. n (begins words h);
+  right = 0;
+  is_place = record { within = omega arith; begins = begins_none; longest = longest words n };
+  is_next = refl;
+}
+  where
+    longest : (ws : List (List ℕ)) → ¬ (BeginsServed ws) → (m : ℕ) → m ≤ length ws → BeginsIn IsCommand (take m ws) → m ≤ 0
+    longest ws f zero l b = omega arith
+    longest [] f (suc m) l b = absurd (omega (arith, l))
+    longest (first ∷ ws) f (suc m) l b = absurd (f (begins (first ∷ (take m ws ++ b.0)) b.1))
+
+pub faulty_served : (words : List (List ℕ)) (n : ℕ) → BeginsServed words → IsFaulty IsAnyCommand words n → IsFaultyWord words n
+faulty_served [] n s f = absurd s
+faulty_served (first ∷ ws) n s f = record {
+  no_command = λ h. f.no_command (any_command (first ∷ ws) h);
+  right = f.right;
+  is_place = record {
+    within = f.is_place.within;
+    begins = front f.right f.is_place.begins;
+    longest = λ m l b. f.is_place.longest m l (b.0, any_command (take m (first ∷ ws) ++ b.0) b.1);
+  };
+  is_next = f.is_next;
+}
+  where
+    front : (m : ℕ) → BeginsIn IsAnyCommand (take m (first ∷ ws)) → BeginsIn IsCommand (take m (first ∷ ws))
+    front zero b = begins_none
+    front (suc m) b = (b.0, served_command (first ∷ (take m ws ++ b.0)) b.1.0 b.1.1 (served_first first (take m ws ++ b.0) b.1.0 s b.1.1))
+
+-- the words of a command that is not served
+pub unserved_first : (words : List (List ℕ)) (c : Command) → AreWords words c → ¬ (IsServed c) → ¬ (BeginsServed words)
+unserved_first [] c a n s = s
+unserved_first (first ∷ ws) c a n s = n (served_first first ws c s a)

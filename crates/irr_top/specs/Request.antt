@@ -1,0 +1,51 @@
+-- The commands that are served.
+--   command_of r           the command of a request
+--   named_wave r, wave_at r     the wave vector that it names
+--   IsServed c             the command is served
+--   IsRequested words r    the words are those of the command
+--   IsCommand words        the words are those of a command that is served
+--   BeginsServed words     the first word is that of a command that is served
+--   IsFaultyWord words n   the n-th word, counted from 1, is the first that no served command has there, or the first that is missing
+use Rattle.std.specs.Prelude.{ℕ, ◌≡◌, ◌⊎◌, List, [], ◌∷◌, codes}
+use Rattle.irr_space.specs.Operation.{WaveVector}
+use Rattle.irr_kvec.specs.declared.wave.Wave.{Wave}
+use Rattle.irr_kvec.specs.WaveMeaning.{wave_vector}
+use Rattle.irr_input.specs.Command.{AreWords, IsFaulty}
+use Rattle.irr_input.specs.declared.words.Command.{Command}
+use Rattle.irr_input.specs.declared.words.Command.TheVariants as commands
+use Rattle.irr_top.specs.declared.request.Request.{Request}
+use Rattle.irr_top.specs.declared.request.Request.TheVariants.{Star, Small}
+
+abbrev pub command_of : Request → Command
+command_of (Star k) = commands.Star k
+command_of (Small k) = commands.Small k
+
+abbrev pub IsServed : Command → Type 0
+IsServed (commands.Star k) = Unit {0}
+IsServed (commands.Small k) = Unit {0}
+IsServed (commands.Full k) = ⊥
+IsServed (commands.Product k l) = ⊥
+IsServed (commands.Subduce k) = ⊥
+IsServed (commands.Compat k l m) = ⊥
+IsServed commands.Check = ⊥
+IsServed (commands.Gen n) = ⊥
+
+abbrev pub named_wave : Request → Wave
+named_wave (Star k) = k
+named_wave (Small k) = k
+
+abbrev pub wave_at : Request → WaveVector
+wave_at r = wave_vector (named_wave r)
+
+abbrev pub IsRequested : List (List ℕ) → Request → Type 0
+IsRequested words r = AreWords words (command_of r)
+
+abbrev pub IsCommand : List (List ℕ) → Type 0
+IsCommand words = (r : Request) × IsRequested words r
+
+abbrev pub BeginsServed : List (List ℕ) → Type 0
+BeginsServed [] = ⊥
+BeginsServed (w ∷ ws) = (w ≡ codes "star") ⊎ (w ≡ codes "small")
+
+abbrev pub IsFaultyWord : List (List ℕ) → ℕ → Type 0
+IsFaultyWord words n = IsFaulty IsCommand words n

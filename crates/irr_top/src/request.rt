@@ -1,0 +1,60 @@
+// The commands that are served.
+ghost use Rattle.std.specs.Prelude.{◌≡◌, ◌↔◌, IfOk, IfErr, IfSome, IsNone, IsTrue};
+ghost use Rattle.irr_input.specs.Command.{texts};
+ghost use Rattle.irr_top.specs.Request.{command_of, BeginsServed, IsFaultyWord, IsServed, IsRequested, named_wave};
+ghost use Rattle.irr_kvec.specs.Centrings.{IsWithinLimits};
+
+use irr_input::{Command, Usage, read_words};
+use irr_kvec::Wave;
+
+/// What is asked for.
+#[derive(Clone, Copy)]
+pub(crate) enum Request {
+    /// The star of a wave vector.
+    Star(Wave),
+    /// The small representations at a wave vector.
+    Small(Wave),
+}
+
+/// The request that the words are. An error is the number of the first word, counted from 1, that no command
+/// that is served has there, or that is missing.
+pub(crate) fn served(words: &[Vec<u8>]) -> Result<Request, u32>
+    ensures requested { IfOk result (λ r. IsRequested (texts words.now) r) }
+    ensures limits { IfOk result (λ r. IsWithinLimits (named_wave r)) }
+    ensures faulty { IfErr result (λ n. IsFaultyWord (texts words.now) n) }
+{
+    match read_words(words) {
+        Ok(command) => match request_of(command) {
+            Some(request) => Ok(request),
+            None => Err(1),
+        },
+        Err(Usage(n)) => Err(if begins_served(words) { n } else { 1 }),
+    }
+}
+
+// The request of a command, where it is served.
+fn request_of(command: Command) -> Option<Request>
+    ensures some { IfSome result (λ r. command ≡ command_of r) }
+    ensures none { IsNone result → ¬ (IsServed command) }
+{
+    match command {
+        Command::Star(wave) => Some(Request::Star(wave)),
+        Command::Small(wave) => Some(Request::Small(wave)),
+        Command::Full(_)
+        | Command::Product(..)
+        | Command::Subduce(_)
+        | Command::Compat(..)
+        | Command::Check
+        | Command::Gen(_) => None,
+    }
+}
+
+// Whether the first word is that of a command that is served.
+fn begins_served(words: &[Vec<u8>]) -> bool
+    ensures { IsTrue result ↔ BeginsServed (texts words.now) }
+{
+    match words.split_first() {
+        Some((first, _)) => matches!(first.as_slice(), b"star" | b"small"),
+        None => false,
+    }
+}
