@@ -175,6 +175,7 @@ module _ {h : ℕ} (T : PhaseTable h) (v : T.order ∣ T.order) {S : Type 0} {G 
         complete = full_list-complete T ordered_list ordered_full;
         ordered = in_order o;
         simple = λ m. ordered_full.simple m;
+        squares = ordered_full.squares;
         sized = λ a e l. (let m = subst (λ n. a < n) count l in subst (λ g. IsSized T.order h g) (sym (items a e m))
             (All-get_or (λ (g : Family S G). IsSized T.order h g) fs (slice_index places a) e
             (subst (λ n. slice_index places a < n) (sym f.read.count) (places_inside a m)) sized));

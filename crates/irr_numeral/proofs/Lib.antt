@@ -13,4 +13,5 @@ pub mod OneReading
 pub mod PrintedWriting
 pub mod PrintedTermFacts
 pub mod PrintedReadings
+pub mod PrintedSizes
 pub mod ReadSizes

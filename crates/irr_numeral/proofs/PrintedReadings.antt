@@ -75,7 +75,7 @@ of-term P j (pos zero) h n = absurd (n refl)
 of-term P j (pos (suc m)) h n = h 0 (j, pos (suc m)) (omega arith)
 of-term P j (negsuc m) h n = h 0 (j, negsuc m) (omega arith)
 
-each-nonzero : (P : ℕ × ℤ → Type 0) (m : ℕ) (f : ℕ → ℤ) → All P (nonzero_terms m f) → (j : ℕ) → j < m → f j ≢ pos 0 → P (j, f j)
+pub each-nonzero : (P : ℕ × ℤ → Type 0) (m : ℕ) (f : ℕ → ℤ) → All P (nonzero_terms m f) → (j : ℕ) → j < m → f j ≢ pos 0 → P (j, f j)
 unfolding nonzero_terms
 each-nonzero P zero f h j lt n = absurd (omega arith)
 each-nonzero P (suc m) f h j lt n = elim (cases_lt j m) [
@@ -107,7 +107,7 @@ push-term den j (pos zero) ts h s is = subst AreTerms (sym (append-nil ts)) h
 push-term den j (pos (suc n)) ts h s is = terms-push ts (printed den (j, pos (suc n))) h (is (λ e. cc)) s
 push-term den j (negsuc n) ts h s is = terms-push ts (printed den (j, negsuc n)) h (is (λ e. cc)) s
 
-are-printed : (den m : ℕ) (f : ℕ → ℤ) → ((j : ℕ) → j < m → f j ≢ pos 0 → IsTerm (printed den (j, f j))) → AreTerms (map (printed den) (nonzero_terms m f))
+pub are-printed : (den m : ℕ) (f : ℕ → ℤ) → ((j : ℕ) → j < m → f j ≢ pos 0 → IsTerm (printed den (j, f j))) → AreTerms (map (printed den) (nonzero_terms m f))
 unfolding nonzero_terms
 are-printed den zero f h = tt
 are-printed den (suc m) f h = subst AreTerms (sym (map-append (printed den) (nonzero_terms m f) (term m (f m))))
@@ -153,7 +153,7 @@ term-size j (pos zero) = refl
 term-size j (pos (suc n)) = sum_by-cons (λ (t : ℕ × ℤ). unsigned_abs t.1) (j, pos (suc n)) [] ∙ omega arith
 term-size j (negsuc n) = sum_by-cons (λ (t : ℕ × ℤ). unsigned_abs t.1) (j, negsuc n) [] ∙ omega arith
 
-nonzero-size : (m : ℕ) (f : ℕ → ℤ) → sum_by (λ t. unsigned_abs t.1) (nonzero_terms m f) ≡ total_below m (λ j. unsigned_abs (f j))
+pub nonzero-size : (m : ℕ) (f : ℕ → ℤ) → sum_by (λ t. unsigned_abs t.1) (nonzero_terms m f) ≡ total_below m (λ j. unsigned_abs (f j))
 unfolding nonzero_terms total_below
 nonzero-size zero f = refl
 nonzero-size (suc m) f = sum_by-append (λ t. unsigned_abs t.1) (nonzero_terms m f) (term m (f m))
@@ -166,10 +166,10 @@ size-printed den (t ∷ ts) h = sum_by-cons (numerator_over den) (printed den t)
     ∙ ap₂ (λ a b. a + b) (h 0 t (omega arith)) (size-printed den ts (λ k d lt. h (suc k) d (omega arith))) ∙ sym (sum_by-cons (λ u. unsigned_abs u.1) t ts)
 
 -- the terms of a number that are not zero, and as they are read
-abbrev nonzero : (n : ℕ) → Number n → List (ℕ × ℤ)
+abbrev pub nonzero : (n : ℕ) → Number n → List (ℕ × ℤ)
 nonzero n x = nonzero_terms n (canonical n x).num.at
 
-abbrev as_read : (n : ℕ) → Number n → List WrittenTerm
+abbrev pub as_read : (n : ℕ) → Number n → List WrittenTerm
 as_read n x = map (printed (denominator n x)) (nonzero n x)
 
 -- Their value.
@@ -250,7 +250,7 @@ module _ (n : ℕ) (h : 0 < n) (x : Number n) (facts : All (IsPrintedAs n (denom
         (all-unmapped (λ t. denominator_of t ∣ m) (denominator n x) (nonzero n x) all) (to_nat i) (to_nat-lt i)));
   }
 
-facts-of : (n : ℕ) (x : Number n) → n < 2 ^ 64 → denominator n x ≤ DENOMINATOR_LIMIT → size n x ≤ COEFFICIENT_LIMIT
+pub facts-of : (n : ℕ) (x : Number n) → n < 2 ^ 64 → denominator n x ≤ DENOMINATOR_LIMIT → size n x ≤ COEFFICIENT_LIMIT
     → All (IsPrintedAs n (denominator n x)) (nonzero n x)
 unfolding size
 facts-of n x top d s = all-nonzero (IsPrintedAs n (denominator n x)) n (canonical n x).num.at (λ j lt some.

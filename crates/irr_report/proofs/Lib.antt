@@ -4,6 +4,7 @@ pub mod Contents
 pub mod ListReports
 pub mod PrintedReports
 pub mod ReadPrinted
+pub mod ModestReports
 pub mod Machines
 pub mod ReportTexts
 pub mod ReportStates

@@ -29,13 +29,13 @@ use Rattle.irr_report.specs.ReadReport.{IsReadReport, HasSmallNumbers, IsSmallNu
 use Rattle.irr_report.specs.PrintedReport.{listed, entry_texts, representation_of, written_of}
 use Rattle.irr_report.proofs.PrintedReports.{length-listed}
 
-All-listed : {A : Type 0} (P : A → Type 0) (n : ℕ) (f : Fin n → A) → ((i : Fin n) → P (f i)) → All P (listed n f)
+pub All-listed : {A : Type 0} (P : A → Type 0) (n : ℕ) (f : Fin n → A) → ((i : Fin n) → P (f i)) → All P (listed n f)
 unfolding listed
 All-listed P zero f h k d lt = absurd (omega arith)
 All-listed P (suc n) f h zero d lt = h first
 All-listed P (suc n) f h (suc k) d lt = All-listed P n (λ i. f (next i)) (λ i. h (next i)) k d (omega arith)
 
-at-listed : {A : Type 0} (n : ℕ) (f : Fin n → A) (i : Fin n) (d : A) → get_or (listed n f) (to_nat i) d ≡ f i
+pub at-listed : {A : Type 0} (n : ℕ) (f : Fin n → A) (i : Fin n) (d : A) → get_or (listed n f) (to_nat i) d ≡ f i
 unfolding listed to_nat
 at-listed zero f i d = elim i [ ]
 at-listed (suc n) f first d = refl
@@ -80,14 +80,14 @@ module _ {A : Type 0} (c : ℕ) where
       place = let l : length (listed c (T first)) ≡ c = length-listed c (T first) in
           let p : suc (to_nat a) * c ≡ to_nat a * c + c = suc-mul (to_nat a) c in omega arith
 
-All-rows : (P : List ℕ → Type 0) {c : ℕ} (r : ℕ) (T : Fin r → Fin c → List ℕ) → ((a : Fin r) (b : Fin c) → P (T a b))
+pub All-rows : (P : List ℕ → Type 0) {c : ℕ} (r : ℕ) (T : Fin r → Fin c → List ℕ) → ((a : Fin r) (b : Fin c) → P (T a b))
     → All P (flat_map (λ row. row) (listed r (λ a. listed c (T a))))
 unfolding listed
 All-rows P zero T h = λ k d lt. absurd (omega arith)
 All-rows P {c = c} (suc r) T h = All-append P (listed c (T first)) (flat_map (λ row. row) (listed r (λ a. listed c (T (next a)))))
     (All-listed P c (T first) (h first)) (All-rows P r (λ a. T (next a)) (λ a. h (next a)))
 
-value_of_text : (n : ℕ) → n < 2 ^ 64 → digits_value 10 (decimal n) ≡ n
+pub value_of_text : (n : ℕ) → n < 2 ^ 64 → digits_value 10 (decimal n) ≡ n
 value_of_text n h = (decimal_is_IsNumeral n h).1
 
 whole_or_zero : (n : ℕ) → n < 2 ^ 64 → IsWholeNumber (decimal n)

@@ -8,3 +8,4 @@ pub mod ReportLimits
 pub mod Machine
 pub mod ReportSteps
 pub mod ReadReport
+pub mod ModestReport

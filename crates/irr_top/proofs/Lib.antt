@@ -6,6 +6,7 @@ pub mod Outcomes
 pub mod SameGenerators
 pub mod Along
 pub mod Members
+pub mod ModestLists
 pub mod SmallTexts
 pub mod Reports
 pub mod Numbers

@@ -71,6 +71,7 @@ module _ (group : Group) (gens : List Op) (is : IsGroupOf group gens) (k w : Wav
         in_order = t.in_order;
         content = refl;
       };
+      modest = t.modest;
       is_text = t.is_text;
     }
 

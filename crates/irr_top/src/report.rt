@@ -10,6 +10,7 @@ ghost use Rattle.irr_rep.specs.Twisted.{phase_table, place_count, operation_plac
 ghost use Rattle.irr_little.specs.Table.{IsLittleTable, listed_operations};
 ghost use Rattle.irr_climb.specs.Families.{AreRead};
 ghost use Rattle.irr_climb.specs.Lists.{IsSmallList};
+ghost use Rattle.irr_climb.specs.Sizes.{HasSmallNumbers};
 ghost use Rattle.irr_report.specs.Content.{FitsTogether};
 ghost use Rattle.irr_report.specs.OfList.{IsReportOfList};
 ghost use Rattle.irr_top.specs.Members.{IsMember, HasTraces};
@@ -25,7 +26,8 @@ use irr_report::{RepText, Report, print_report};
 use irr_seitz::Op;
 use std::alloc::Global;
 
-/// The text of the report of a list of small representations. The error is want of memory.
+/// The text of the report of a list of small representations, which is far within the limits on what reads it.
+/// The error is want of memory.
 pub(crate) fn list_text<S: Scalar>(
     alloc: Global,
     group: &Group,
@@ -36,6 +38,7 @@ pub(crate) fn list_text<S: Scalar>(
     requires table { IsLittleTable group.now (wave_vector wave) (operation_places t.now) (phase_table t.now) }
     requires within { (phase_table t.now).order ≤ ORDER_LIMIT }
     requires list { IsSmallList (phase_table t.now) families.items }
+    requires numbers { All (HasSmallNumbers (phase_table t.now).order (place_count t.now)) families.items }
     ensures { (d : Op) → IfOk result (λ text.
         IsListText (wave_vector wave) (listed_operations group.now (place_count t.now) (operation_places t.now) d) (phase_table t.now) text.items) }
 {
