@@ -1,8 +1,7 @@
 -- The calls that make the matrices of extensions can be worked out.
 --   le_four                  a number with a square of at most 24
 --   term_fits, terms_fit, ratio_fits     a term, a sum of terms, the multiple of the sum
---   member_fits              a matrix at a member times 1
---   product_fit, phase_fits  a product of two matrices of an extension, and the multiple of it
+--   product_fit, phase_fits, small_products      a product of two matrices of an extension, and the multiple of it
 --   one_power_fits, root_fits    a power of z times a matrix, and times one of a family of limited size
 use Rattle.std.proofs.Common.{◌≡◌, subst, ℕ, ◌+◌, ◌*◌, ◌^◌, ◌<◌, ◌≤◌, List, arith}
 use native.Mathlib.Nat as Nat
@@ -20,7 +19,7 @@ use Rattle.irr_rep.specs.declared.family.Family.{Family}
 use Rattle.irr_rep.specs.Family.{matrix_at}
 use Rattle.irr_rep.specs.Twisted.{place_count}
 use Rattle.irr_climb.specs.declared.step.Step.{Step}
-use Rattle.irr_climb.specs.Extensions.{HasExtension, trace_factor, trace_term}
+use Rattle.irr_climb.specs.Extensions.{HasExtension, HasSmallProducts, trace_factor, trace_term}
 use Rattle.irr_climb.specs.Families.{IsRead}
 use Rattle.irr_climb.specs.Sizes.{IsSized, size_bound}
 use Rattle.irr_climb.specs.Steps.{IsStep, large}
@@ -106,13 +105,6 @@ module _ {S : Type 0} {G : Ghosts S} {M : ℕ} {step : Step} {f : Family S G} {t
         let l : 1 * 4 * 12000 * (728 * 728 * 12000) ≤ 2 ^ 100 = omega arith in Nat.le_trans k l;
   }
 
-  pub member_fits : (x : Number M) → IsRootSum M 1 1 x → (i : Fin h) → MultiplesFit M x (e.D.at i)
-  member_fits x r i =
-      let l = small_den in
-      let k = square in
-      one_power_fits M e.d (b * b) den x (e.D.at i) limited (omega (arith, l)) (omega (arith, k)) r
-      (member_within e.is e.D e.E e.fixed e.at-member i)
-
   pub terms_fit : (p : Fin (place_count step.outer)) (k : ℕ) → k ≤ h → (q : Fin h) → SumsFit M (first_terms M (trace_term e.is e.D e.E p) k)
       (trace_term e.is e.D e.E p q)
   terms_fit p k below q = record {
@@ -193,6 +185,13 @@ module _ {S : Type 0} {G : Ghosts S} {M : ℕ} {step : Step} {f : Family S G} {t
         let l : 4 * (4 * (24 * (4 * (728 * 728))) * (4 * (24 * (4 * (728 * 728))))) ≤ 2 ^ 70 = omega arith in Nat.le_trans k l)
         r (within-mul M e.d e.d e.d (e.d * (h * (e.d * (b * b)))) (h * den) (e.d * (h * (e.d * (b * b)))) (h * den) (e.E.at x) (e.E.at y)
         (within_at x) (within_at y))
+
+  -- both
+  pub small_products : HasSmallProducts e.is e.E
+  small_products = record {
+    product = product_fit;
+    multiple = phase_fits;
+  }
 
 -- a matrix of a family of limited size times a power of z
 pub root_fits : {S : Type 0} {G : Ghosts S} {M : ℕ} {step : Step} (is : IsStep M step) {d : ℕ} (E : Representation (large is) d) (f : Family S G)

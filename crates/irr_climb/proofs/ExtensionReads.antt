@@ -1,17 +1,17 @@
 -- What the program reads of a step and of traces.
 --   root_reduced             an exponent reduced by the order of a table
 --   traces_small             traces are small numbers
---   member_at, part_at       a member's place, and the number of a place's part
+--   exponent_at, part_at, part_within        the exponent and the part of a place
 --   trace_at                 the trace at a product of g n with a member
 --   factor_is, term_of       the number by which a matrix is multiplied, and the multiple
 --   inverse_power            the inverse of a phase
---   square_is, member_is     the matrices at g^2 n and at a member
+--   product_is               the matrix at a product with g
 --   read_item, family_item   a matrix of a family
 use Rattle.std.proofs.Common.{◌≡◌, sym, ◌∙◌, ap, ap₂, subst, ℕ, ◌-◌, ◌*◌, ◌/◌, ◌%◌, ◌<◌, List, get_or, slice_index}
 use Rattle.std.specs.Int.{◌∣◌}
 use Rattle.irr_algebra.specs.Fin.{Fin, to_nat}
 use Rattle.irr_algebra.specs.Matrix.{◌·◌, scale, trace}
-use Rattle.irr_algebra.proofs.Indices.{to_nat-lt}
+use Rattle.irr_algebra.proofs.Indices.{from_nat, to_nat-from_nat, to_nat-lt}
 use Rattle.irr_algebra.proofs.Matrices.{scale-one, scale-scale}
 use Rattle.irr_number.specs.Number.{Number, numbers, root_power}
 use Rattle.irr_number.proofs.Lifts.{lift-root_power}
@@ -28,11 +28,12 @@ use Rattle.irr_rep.proofs.MatrixForms.{item-matrix}
 use Rattle.irr_rep.proofs.TraceRoots.{trace-IsRootSum}
 use Rattle.irr_char.specs.Characters.{IsSmallRow}
 use Rattle.irr_char.proofs.AverageTerms.{item-value}
+use Rattle.irr_root.proofs.TurnedTraces.{read_at}
 use Rattle.irr_climb.specs.declared.step.Step.{Step}
 use Rattle.irr_climb.specs.Extensions.{HasTraces, term_exponent, trace_factor, trace_term}
 use Rattle.irr_climb.specs.Families.{IsRead}
 use Rattle.irr_climb.specs.Steps.{IsStep, large, small}
-use Rattle.irr_climb.proofs.ExtensionPlaces.{at_member, at_square, coset_product}
+use Rattle.irr_climb.proofs.ExtensionPlaces.{coset_product}
 use Rattle.irr_climb.proofs.ExtensionTerms.{root_over}
 
 pub root_reduced : (N M : ℕ) → 0 < N → N ∣ M → (x : ℕ) → root_power M (x % N * (M / N)) ≡ root_power M (M / N * x)
@@ -96,6 +97,24 @@ pub term_of : {S : Type 0} {G : Ghosts S} {M : ℕ} {step : Step} (is : IsStep M
 unfolding trace_term
 term_of is D E p q m h = h
 
+-- the exponent and the part of a place
+module _ {M : ℕ} {step : Step} (is : IsStep M step) (x k : ℕ) where
+  pub exponent_at : k ≡ get_or step.exponents.items x k → (p : Fin (place_count step.outer)) → to_nat p ≡ x → k ≡ to_nat (is.quotient.exponent p)
+  exponent_at e p a =
+      let below = subst (λ j. j < place_count step.outer) a (to_nat-lt p) in
+      read_at step.exponents.items x k e (subst (λ j. x < j) (sym is.exponents_count) below) ∙ ap (slice_index step.exponents.items) (sym a)
+      ∙ is.exponents p
+
+  pub part_at : k ≡ get_or step.parts.items x k → (p : Fin (place_count step.outer)) → to_nat p ≡ x → k ≡ to_nat (is.quotient.part p)
+  part_at e p a =
+      let below = subst (λ j. j < place_count step.outer) a (to_nat-lt p) in
+      read_at step.parts.items x k e (subst (λ j. x < j) (sym is.parts_count) below) ∙ ap (slice_index step.parts.items) (sym a) ∙ is.parts p
+
+  pub part_within : x < place_count step.outer → k ≡ get_or step.parts.items x k → k < place_count step.inner
+  part_within below e =
+      let p = from_nat (place_count step.outer) x below in
+      subst (λ j. j < place_count step.inner) (sym (part_at e p (to_nat-from_nat (place_count step.outer) x below))) (to_nat-lt (is.quotient.part p))
+
 module _ {M : ℕ} {step : Step} (is : IsStep M step) {d : ℕ} (E : Representation (large is) d) where
   -- the inverse of a phase is a power of z
   pub inverse_power : (x y : Fin (place_count step.outer)) → IsRootSum M 1 1 ((large is).phase-invertible x y).inverse
@@ -104,21 +123,13 @@ module _ {M : ℕ} {step : Step} (is : IsStep M step) {d : ℕ} (E : Representat
       let k = (T.order - 1) * T.exponent x y in
       subst (IsRootSum M 1 1) (sym (lift-root_power T.order M T.order_positive is.outer_divides k)) (IsRootSum-root M (M / T.order * k))
 
-  -- the matrix at g^2 n
-  pub square_is : (p : Fin (place_count step.outer)) → to_nat (is.quotient.exponent p) ≡ 2
-      → (let y = (phase_table step.outer).product is.quotient.generator (is.part.place (is.quotient.part p)) in
-      scale (numbers M) ((large is).phase-invertible is.quotient.generator y).inverse (E.at is.quotient.generator · E.at y) ≡ E.at p)
-  square_is p two =
+  -- the matrix at a product with g
+  pub product_is : (y : Fin (place_count step.outer)) → (let g = is.quotient.generator in
+      scale (numbers M) ((large is).phase-invertible g y).inverse (E.at g · E.at y) ≡ E.at ((large is).product g y))
+  product_is y =
       let g = is.quotient.generator in
-      let y = (phase_table step.outer).product g (is.part.place (is.quotient.part p)) in
       let u = (large is).phase g y in
       let i = ((large is).phase-invertible g y).inverse in
       ap (scale (numbers M) i) (E.at-product g y) ∙ scale-scale (numbers M) i u (E.at ((large is).product g y))
       ∙ ap (λ k. scale (numbers M) k (E.at ((large is).product g y))) ((numbers M).mul_comm i u ∙ ((large is).phase-invertible g y).mul-inverse)
-      ∙ scale-one (E.at ((large is).product g y)) ∙ ap E.at (at_square is.quotient p two)
-
-  -- the matrix at a member
-  pub member_is : (D : Representation (small is) d) → ((n : Fin (place_count step.inner)) → E.at (is.part.place n) ≡ D.at n)
-      → (p : Fin (place_count step.outer)) → to_nat (is.quotient.exponent p) ≡ 0 → scale (numbers M) (numbers M).one (D.at (is.quotient.part p))
-      ≡ E.at p
-  member_is D at p zero = scale-one (D.at (is.quotient.part p)) ∙ sym (at (is.quotient.part p)) ∙ ap E.at (at_member is.quotient p zero)
+      ∙ scale-one (E.at ((large is).product g y))

@@ -1,6 +1,7 @@
 -- An extension of a family of the program by one level, with its traces at g n for the generator g and the members n.
 --   HasExtension M step f traces     f is D, a simple family that is equivalent to its conjugate, on at most 24 members; E is an
 --                                    extension of D with these traces
+--   HasSmallProducts is E            products of two matrices of E are limited in size, also times a power of z
 --   HasTraces order value is E traces     the traces of E at g n, for a family E of at most 48 rows
 --   term_exponent is x m     x(x,m) - x(m,m'), up to multiples of the order, for the inverse m' of the member m
 --   trace_factor is E x m    z to this exponent times the trace of E at x m
@@ -8,11 +9,13 @@
 --   exponent_root is a x     the a-th root of one of the order of the index, to the exponent of the place x
 use Rattle.std.specs.Prelude.{ℕ, ◌≡◌, ◌≤◌, ◌+◌, ◌-◌, ◌*◌, ◌/◌, List}
 use Rattle.irr_algebra.specs.Fin.{Fin, to_nat}
-use Rattle.irr_algebra.specs.Matrix.{Matrix, scale, trace}
+use Rattle.irr_algebra.specs.Matrix.{Matrix, ◌·◌, scale, trace}
 use Rattle.irr_number.specs.Number.{Number, numbers, root_power}
 use Rattle.irr_theory.specs.FactorSystem.{Representation}
 use Rattle.irr_level.specs.Scalar.{phase_number}
+use Rattle.irr_canonical.specs.RootSum.{IsRootSum}
 use Rattle.irr_cyc.specs.declared.scalars.Scalar.{Ghosts}
+use Rattle.irr_mat.specs.Size.{MultiplesFit, ProductFits}
 use Rattle.irr_rep.specs.declared.family.Family.{Family}
 use Rattle.irr_rep.specs.Twisted.{phase_table, place_count}
 use Rattle.irr_char.specs.Characters.{IsRowOf}
@@ -36,6 +39,11 @@ pub record HasExtension {S : Type 0} {G : Ghosts S} (M : ℕ) (step : Step) (f :
   pub few_members : place_count step.inner ≤ 24
   pub at-member : (n : Fin (place_count step.inner)) → E.at (is.part.place n) ≡ D.at n
   pub has_traces : HasTraces G.order_of G.value is E traces
+
+-- products of two matrices of E can be worked out, and their multiples by powers of z
+pub record HasSmallProducts {M : ℕ} {step : Step} (is : IsStep M step) {d : ℕ} (E : Representation (large is) d) : Type 0 where
+  pub product : (x y : Fin (place_count step.outer)) → ProductFits M (E.at x) (E.at y)
+  pub multiple : (x y : Fin (place_count step.outer)) (u : Number M) → IsRootSum M 1 1 u → MultiplesFit M u (E.at x · E.at y)
 
 -- x(x,m) - x(m,m') modulo the order, as a natural number
 abbrev pub term_exponent : {M : ℕ} {step : Step} (is : IsStep M step) → Fin (place_count step.outer) → Fin (place_count step.inner) → ℕ

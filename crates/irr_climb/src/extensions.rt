@@ -10,6 +10,7 @@ ghost use Rattle.irr_climb.specs.Sizes.{AreSized};
 ghost use Rattle.irr_climb.specs.Steps.{AreExtensions, IsFixedFamily, IsStep, small};
 
 mod first;
+mod multiples;
 mod others;
 mod terms;
 

@@ -1,6 +1,7 @@
 -- Sums of a character over sandwiches, term by term.
 --   root-small, item-is-small, sum-is-small     sizes of a root, of a number of a small row, and of a sum
 --   inner_terms, outer_terms        the terms of both sums
+--   copy-small, copy-number         a number of the row itself, where the power of z is 1
 --   turned-number                   the product of a power of z and a number of a row
 --   member-number, member-of        the number of a listed place, and the place of a number
 --   listed-turned                   a power of z times a number of the character
@@ -15,7 +16,9 @@ use Rattle.irr_algebra.specs.Fin.{Fin, to_nat}
 use Rattle.irr_algebra.specs.Listed.{sum_below}
 use Rattle.irr_algebra.proofs.Indices.{from_nat, to_nat-from_nat, to_nat-lt, to_nat_inj}
 use Rattle.irr_algebra.proofs.Listed.{sum_below-add_one, sum_below-zero}
+use Rattle.irr_algebra.proofs.Rings.{one-mul}
 use Rattle.irr_number.specs.Number.{Number, numbers, root_power}
+use Rattle.irr_number.proofs.RootPowers.{root_power-zero}
 use Rattle.irr_canonical.specs.RootSum.{IsRootSum}
 use Rattle.irr_canonical.proofs.RootSums.{IsRootSum-add_same, IsRootSum-more, IsRootSum-root, IsRootSum-zero}
 use Rattle.irr_theory.specs.Lifted.{Lifted}
@@ -74,6 +77,27 @@ module _ {S : Type 0} (order : S → ℕ) (value : (n : ℕ) → S → Number n)
       subst (λ m. value m z ≡ (numbers m).mul (value m turn) (value m x)) o v
       ∙ ap₂ (numbers n).mul t (item-value order value n h row small k l x is (from_nat h k l) (to_nat-from_nat h k l)
       ∙ ap (λ j. get_or (map (value n) row) j (numbers n).zero) (to_nat-from_nat h k l))
+
+  -- where the power of z is 1 the number serves itself
+  module _ (h : ℕ) (row : List S) (small : IsSmallRow order value n h row) (k : ℕ) (l : k < h) (x z : S) (is : x ≡ get_or row k x)
+      (v : value (order x) z ≡ value (order x) x) where
+    same-number : value n z ≡ value n x
+    same-number = subst (λ m. value m z ≡ value m x) (item-order order value n h row small k l x is) v
+
+    pub copy-small : order z ≡ order x → IsSmall order value n 48 z
+    copy-small o = record {
+      has_order = o ∙ item-order order value n h row small k l x is;
+      few = subst (IsRootSum n 48 1) (sym same-number) (item-small order value n h row small k l x is);
+    }
+
+    pub copy-number : (e m : ℕ) → e ≡ 0
+        → value n z ≡ (numbers n).mul (root_power n (e * m)) (slice_index_or (map (value n) row) k (numbers n).zero)
+    copy-number e m zero =
+        let y = slice_index_or (map (value n) row) k (numbers n).zero in
+        let none : e * m ≡ 0 = ap (λ j. j * m) zero ∙ Nat.zero-mul m in
+        same-number ∙ item-value order value n h row small k l x is (from_nat h k l) (to_nat-from_nat h k l)
+        ∙ ap (λ j. get_or (map (value n) row) j (numbers n).zero) (to_nat-from_nat h k l)
+        ∙ sym (ap (λ j. (numbers n).mul (root_power n j) y) none ∙ ap (λ u. (numbers n).mul u y) (root_power-zero n) ∙ one-mul (numbers n) y)
 
   added : (x y z : S) → order x ≡ n → value (order x) z ≡ (numbers (order x)).add (value (order x) x) (value (order x) y)
       → value n z ≡ (numbers n).add (value n x) (value n y)

@@ -59,8 +59,12 @@ fn turned_trace<S: Scalar>(
         ≡ power_trace n (phase_table t.now).order (map (S.value n) character.now) powers.now.places.items powers.now.exponents.items e j) }
 {
     let exponent = powers.exponents[j as usize] + (t.order() - e) * j;
+    let value = &character[powers.places[j as usize] as usize];
+    if exponent % t.order() == 0 {
+        return value.copy(alloc);
+    }
     let turn: S = phase(alloc, t, order, exponent)?;
-    turn.mul(alloc, &character[powers.places[j as usize] as usize])
+    turn.mul(alloc, value)
 }
 
 // The sum of the z^(-e j) tr(D(i)^j) over the powers of a place.

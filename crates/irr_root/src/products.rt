@@ -39,9 +39,14 @@ fn turned_value<S: Scalar>(
         ≡ (numbers n).mul (root_power n (x.exponent * (n / (phase_table t.now).order)))
         (slice_index_or (map (S.value n) character.now) (slice_index positions.now x.place) (numbers n).zero)) }
 {
+    let value = &character[positions[x.place as usize] as usize];
+    if x.exponent == 0 {
+        let copy = value.copy(alloc)?;
+        return Ok(copy);
+    }
     let turn: S = phase(alloc, t, order, x.exponent)?;
-    let value = turn.mul(alloc, &character[positions[x.place as usize] as usize])?;
-    Ok(value)
+    let product = turn.mul(alloc, value)?;
+    Ok(product)
 }
 
 // The values at the x n y n^-1, added up over the members n.

@@ -12,6 +12,7 @@ ghost use Rattle.irr_climb.specs.Sizes.{AreSized, IsSized};
 ghost use Rattle.irr_climb.specs.Steps.{AreExtensions, IsStep, large};
 
 use crate::extensions::first::first_extension;
+use crate::extensions::multiples::multiple;
 use crate::step::Step;
 use irr_cyc::{Order, Scalar};
 use irr_mat::Mat;
@@ -37,8 +38,7 @@ fn other_matrix<S: Scalar>(
         → (p : Fin (place_count step.now.outer)) → to_nat p ≡ x → IfOk result (IsMatrix M d (scale (numbers M) (exponent_root is a p) (E.at p))) }
 {
     let exponent = a * step.exponents[x as usize] * (order.n() / step.index) % order.n();
-    let root = S::root(alloc, order, exponent)?;
-    first.mats[x as usize].scale(alloc, &root)
+    multiple(alloc, order, exponent, &first.mats[x as usize])
 }
 
 // The extension whose matrices are those of the first times the a-th root of one to the exponents of the places.

@@ -11,6 +11,7 @@ ghost use Rattle.irr_rep.specs.Twisted.{place_count};
 ghost use Rattle.irr_climb.specs.Steps.{IsStep, large};
 ghost use Rattle.irr_climb.specs.Extensions.{HasExtension, HasTraces, term_exponent, trace_factor, trace_term};
 
+use crate::extensions::multiples::times;
 use crate::step::Step;
 use irr_cyc::{Order, Scalar};
 use irr_mat::Mat;
@@ -89,7 +90,7 @@ fn term<S: Scalar>(
         → IfOk result (IsMatrix M e.d (trace_term e.is e.D e.E p q)) }
 {
     let factor = factor(alloc, order, step, traces, x, m)?;
-    family.mats[step.inner.inverse(m) as usize].scale(alloc, &factor)
+    times(alloc, &factor, &family.mats[step.inner.inverse(m) as usize])
 }
 
 // The sum of the terms of all members.

@@ -1,14 +1,16 @@
 -- A term is a power of z times a number of the character.
-use Rattle.std.proofs.Common.{◌≡◌, sym, ◌∙◌, ap, ap₂, subst, ℕ, ◌+◌, ◌-◌, ◌*◌, ◌/◌, ◌<◌, ◌≤◌, ◌^◌, get_or, map, slice_index, Fits, w32, arith, rules}
+use Rattle.std.proofs.Common.{◌≡◌, sym, ◌∙◌, ap, ap₂, subst, ℕ, ◌+◌, ◌-◌, ◌*◌, ◌/◌, ◌%◌, ◌<◌, ◌≤◌, ◌^◌, get_or, map, slice_index, Fits, w32, arith, rules}
 use native.Mathlib.Nat as Nat
 use Rattle.std.proofs.lemmas.Result.{IfOk-weaker}
 use Rattle.irr_algebra.proofs.Indices.{from_nat, to_nat-from_nat}
+use Rattle.irr_algebra.proofs.Rings.{one-mul}
 use Rattle.irr_number.specs.Number.{numbers, root_power}
 use Rattle.irr_canonical.specs.RootSum.{IsRootSum}
 use Rattle.irr_canonical.proofs.RootSums.{IsRootSum-root}
 use Rattle.irr_char.proofs.AverageTerms.{few_powers, item-order, item-small, item-value}
 use Rattle.irr_mat.proofs.Sizes.{product_sizes, sum_denominators}
 use Rattle.irr_rep.specs.Twisted.{place_count, phase_table}
+use Rattle.irr_root.proofs.Phases.{unit-power}
 use Rattle.irr_root.proofs.TurnedTraces.{read_at, turned-value}
 use Rattle.irr_root.proofs.Walks.{powers-place-lt, powers-turned-le, table-order-le}
 use Rattle.irr_root.proofs.eigenvalues.turned_trace.Goals as goal
@@ -105,3 +107,43 @@ returns-clause-value g c =
     ∙ ap (λ k. get_or (map (value n) c.args.character.now) k (numbers n).zero) (is ∙ place))
     (subst (λ u. value u z ≡ (numbers u).mul (value u c.in_ok-turn.turn) (value u c.index-character-index.result)) c.in_ok-turn.ensures.order e))
     c.mul.ensures.value
+
+-- the power of z is 1
+pub returns-then-exponent-order-eq0-clause-order : goal.returns-then-exponent-order-eq0-clause-order
+returns-then-exponent-order-eq0-clause-order g c =
+    let place = read_at c.args.powers.now.places.items c.args.j c.index-2.result.now c.index-2.ensures c.requires.index in
+    let l = subst (λ k. k < place_count c.args.t.now) (sym place)
+    (powers-place-lt (phase_table c.args.t.now) c.requires.powers.0 c.requires.powers.1 c.args.j c.requires.index) in
+    IfOk-weaker c.copy.result _ _ (λ z e.
+    e ∙ item-order g.S.Scalar.order_of g.S.Scalar.value c.args.order.now.n (place_count c.args.t.now) c.args.character.now c.requires.row
+    c.index-2.result.now l c.index-character-index.result c.index-character-index.is)
+    c.copy.ensures.order
+
+pub returns-then-exponent-order-eq0-clause-value : goal.returns-then-exponent-order-eq0-clause-value
+returns-then-exponent-order-eq0-clause-value g c =
+    let order = g.S.Scalar.order_of in
+    let value = g.S.Scalar.value in
+    let n = c.args.order.now.n in
+    let h = place_count c.args.t.now in
+    let T = phase_table c.args.t.now in
+    let w = c.requires.powers.1 in
+    let row = c.args.character.now in
+    let places = c.args.powers.now.places.items in
+    let exponents = c.args.powers.now.exponents.items in
+    let place = read_at places c.args.j c.index-2.result.now c.index-2.ensures c.requires.index in
+    let exponent = read_at exponents c.args.j c.index.result.now c.index.ensures (subst (λ k. c.args.j < k) (sym w.same_length) c.requires.index) in
+    let l = subst (λ k. k < h) (sym place) (powers-place-lt T c.requires.powers.0 w c.args.j c.requires.index) in
+    let p = from_nat h c.index-2.result.now l in
+    let is = to_nat-from_nat h c.index-2.result.now l in
+    let x = c.index-character-index.result in
+    let turn = c.index.result.now + (c.order.result - c.args.e) * c.args.j in
+    let one = unit-power T.order n turn T.order_positive c.requires.divides (subst (λ k. turn % k ≡ 0) c.order-2.ensures.order
+    c.if-exponent-order-eq0.true) in
+    IfOk-weaker c.copy.result _ _ (λ z e.
+    turned-value n T.order (map (value n) row) places exponents c.args.e c.args.j (root_power n (turn * (n / T.order))) (value n x) (value n z)
+    (ap₂ (λ a b. root_power n ((a + (b - c.args.e) * c.args.j) * (n / T.order))) exponent c.order.ensures.order)
+    (item-value order value n h row c.requires.row c.index-2.result.now l x c.index-character-index.is p is
+    ∙ ap (λ k. get_or (map (value n) row) k (numbers n).zero) (is ∙ place))
+    (subst (λ u. value u z ≡ value u x) (item-order order value n h row c.requires.row c.index-2.result.now l x c.index-character-index.is) e
+    ∙ sym (one-mul (numbers n) (value n x)) ∙ ap (λ u. (numbers n).mul u (value n x)) (sym one)))
+    c.copy.ensures.value

@@ -16,8 +16,9 @@ coset_matrix-requires-clause-coset g c =
     let is = c.requires.extension.is in
     ap (slice_index step.exponents.items) is.generator ∙ is.exponents is.quotient.generator ∙ generator_exponent is.quotient is.two_or_three
 
-pub matrix_at_place-requires-clause-generator : goal.matrix_at_place-requires-clause-generator
-matrix_at_place-requires-clause-generator g c e = c.in_ok-at_generator.ensures e e.is.quotient.generator (sym e.is.generator)
+pub matrix_at_place-requires-clause-extension : goal.matrix_at_place-requires-clause-extension
+matrix_at_place-requires-clause-extension g c =
+    let e = c.requires.extension in (c.args.traces.now, e, c.in_ok-at_generator.ensures e e.is.quotient.generator (sym e.is.generator))
 
 pub loop-x-init : goal.loop-x-init
 loop-x-init g c e = matrices_none c.args.order.now.n e.d e.E.at c.new-mats.result.items c.new-mats.ensures.items
@@ -25,7 +26,8 @@ loop-x-init g c e = matrices_none c.args.order.now.n e.d e.E.at c.new-mats.resul
 pub loop-x-preserved : goal.loop-x-preserved
 loop-x-preserved g c e = matrices_more c.args.order.now.n e.d e.E.at c.loop-x.x c.loop-x.mats.items c.push.new.self.items c.in_ok-matrix.matrix
     (c.loop-x.invariant e)
-    c.in_ok-push.ensures.items (λ i q. c.in_ok-matrix.ensures e i q)
+    c.in_ok-push.ensures.items (λ i q. c.in_ok-matrix.ensures c.args.traces.now e (c.in_ok-at_generator.ensures e e.is.quotient.generator
+    (sym e.is.generator)) i q)
 
 pub returns : goal.returns
 returns g c e =

@@ -1,26 +1,19 @@
 -- A matrix times a root of one.
 use Rattle.std.proofs.Common.{◌≡◌, ◌<◌, ◌≤◌, ◌*◌, ◌/◌, ◌%◌, ◌⊎◌, inl, inr, sym, ◌∙◌, ap}
-use Rattle.std.proofs.Common.{ap₂, subst, slice_index, ℕ, Result, Ok, Err, IfOk, Fits, arith, rules}
+use Rattle.std.proofs.Common.{ap₂, subst, slice_index, ℕ, IfOk, Fits, arith, rules}
 use mir.Syntax.{w32}
 use native.Mathlib.Nat as Nat
 use Rattle.irr_algebra.proofs.Indices.{from_nat, to_nat-from_nat, to_nat-lt}
-use Rattle.irr_number.specs.Number.{root_power}
+use Rattle.irr_algebra.specs.Matrix.{scale}
+use Rattle.irr_number.specs.Number.{numbers, root_power}
 use Rattle.irr_number.proofs.RootPowers.{root_power-mod}
-use Rattle.irr_canonical.specs.RootSum.{IsRootSum}
-use Rattle.irr_canonical.proofs.RootSums.{IsRootSum-root}
+use Rattle.irr_rep.specs.Defects.{IsMatrix}
 use Rattle.irr_rep.specs.Twisted.{place_count}
-use Rattle.irr_rep.proofs.MatrixForms.{multiple_fits, scaled}
 use Rattle.irr_root.proofs.TurnedTraces.{read_at}
-use Rattle.irr_climb.specs.Extensions.{exponent_root}
 use Rattle.irr_climb.specs.Steps.{large}
 use Rattle.irr_climb.proofs.ExtensionFits.{root_fits}
 use Rattle.irr_climb.proofs.ExtensionReads.{read_item}
 use Rattle.irr_climb.proofs.extensions.others.other_matrix.Goals as goal
-
-if_ok_all : {A E : Type 0} (r : Result A E) (P Q R V W : A → Type 0) → ((x : A) → P x → Q x → R x → V x → W x) → IfOk r P → IfOk r Q → IfOk r R
-    → IfOk r V → IfOk r W
-if_ok_all (Ok x) P Q R V W f p q s v = f x p q s v
-if_ok_all (Err e) P Q R V W f p q s v = p
 
 fits_small : (k : ℕ) → k ≤ 48000 → Fits w32 k
 fits_small k l = search rules
@@ -66,41 +59,27 @@ overflow_mul-exponent-2 g c =
     let l : c.args.a * c.index.result.now * (c.n.result / step.index) ≤ 2 * 2 * 12000 = Nat.mul-le-mul (Nat.mul-le-mul a e) b in
     fits_small (c.args.a * c.index.result.now * (c.n.result / step.index)) (omega (arith, l))
 
-pub scale-requires-clause-orders : goal.scale-requires-clause-orders
-scale-requires-clause-orders g c =
+pub multiple-requires-clause-multiple : goal.multiple-requires-clause-multiple
+multiple-requires-clause-multiple g c =
     let r = c.requires.first in
     let o = place_count c.args.step.now.outer in
-    c.in_ok-root.ensures.order ∙ sym (read_item (large r.0) r.2 c.args.first.now r.3 c.args.x c.index-2.result.now c.requires.place c.index-2.ensures
-    (from_nat o c.args.x c.requires.place) (to_nat-from_nat o c.args.x c.requires.place)).order
-
-pub scale-requires-clause-sizes : goal.scale-requires-clause-sizes
-scale-requires-clause-sizes g c =
-    let value = g.S.Scalar.value in
-    let M = c.args.order.now.n in
-    let r = c.requires.first in
-    let o = place_count c.args.step.now.outer in
-    let p = from_nat o c.args.x c.requires.place in
-    let root = c.in_ok-root.root in
-    multiple_fits M r.1 (r.2.at p) c.index-2.result.now
-    (read_item (large r.0) r.2 c.args.first.now r.3 c.args.x c.index-2.result.now c.requires.place c.index-2.ensures p
-    (to_nat-from_nat o c.args.x c.requires.place)) root
-    (root_fits r.0 r.2 c.args.first.now r.3 r.4 c.args.step.now.outer.places_within c.args.order.now.limited (value M root)
-    (subst (IsRootSum M 1 1) (sym c.in_ok-root.ensures.value) (IsRootSum-root M (c.args.a * c.index.result.now *
-    (c.n.result / c.args.step.now.index) % c.n-2.result))) p)
+    let p = from_nat o c.args.x c.requires.place in (
+      r.1,
+      r.2.at p,
+      read_item (large r.0) r.2 c.args.first.now r.3 c.args.x c.index-2.result.now c.requires.place c.index-2.ensures p
+          (to_nat-from_nat o c.args.x c.requires.place),
+      λ u root. root_fits r.0 r.2 c.args.first.now r.3 r.4 c.args.step.now.outer.places_within c.args.order.now.limited u root p,
+    )
 
 pub returns : goal.returns
 returns g c is d E r p q =
-    let value = g.S.Scalar.value in
     let M = c.args.order.now.n in
     let step = c.args.step.now in
     let e = c.index.result.now in
     let read = read_at step.exponents.items c.args.x e c.index.ensures (subst (λ k. c.args.x < k) (sym is.exponents_count) c.requires.place) in
     let number = read ∙ ap (slice_index step.exponents.items) (sym q) ∙ is.exponents p in
     let exponent = c.args.a * e * (c.n.result / step.index) in
-    let is_root = c.in_ok-root.ensures.value ∙ ap (λ k. root_power M (exponent % k)) c.n-2.ensures.value ∙ root_power-mod M exponent
+    let is_root = ap (λ k. root_power M (exponent % k)) c.n-2.ensures.value ∙ root_power-mod M exponent
     ∙ ap (root_power M) (ap₂ (λ u v. c.args.a * u * v) number (ap₂ (λ u v. u / v) c.n.ensures.value is.index)) in
-    if_ok_all c.scale.result _ _ _ _ _ (λ z s k o v.
-    scaled M d (E.at p) c.index-2.result.now
-    (read_item (large is) E c.args.first.now r c.args.x c.index-2.result.now c.requires.place c.index-2.ensures p q)
-    c.in_ok-root.root (exponent_root is c.args.a p) is_root z s k o v)
-    c.scale.ensures.rows c.scale.ensures.cols c.scale.ensures.order c.scale.ensures.value
+    subst (λ u. IfOk c.multiple.result (IsMatrix M d (scale (numbers M) u (E.at p)))) is_root
+    (c.multiple.ensures d (E.at p) (read_item (large is) E c.args.first.now r c.args.x c.index-2.result.now c.requires.place c.index-2.ensures p q))

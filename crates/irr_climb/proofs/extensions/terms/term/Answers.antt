@@ -21,16 +21,16 @@ pub index-requires : goal.index-requires
 index-requires g c =
     let l = subst (λ k. c.inverse.result < k) (sym c.requires.extension.fixed.read.shape.count) c.inverse.ensures.within in search rules
 
-pub scale-requires-clause-orders : goal.scale-requires-clause-orders
-scale-requires-clause-orders g c =
+pub times-requires-clause-orders : goal.times-requires-clause-orders
+times-requires-clause-orders g c =
     let e = c.requires.extension in
     let i = from_nat (place_count c.args.step.now.inner) c.inverse.result c.inverse.ensures.within in
     let m = family_item e.is e.D c.args.family.now e.fixed.read c.inverse.result c.index.result.now c.inverse.ensures.within c.index.ensures i
     (to_nat-from_nat (place_count c.args.step.now.inner) c.inverse.result c.inverse.ensures.within) in
     c.in_ok-factor.ensures.order ∙ sym m.order
 
-pub scale-requires-clause-sizes : goal.scale-requires-clause-sizes
-scale-requires-clause-sizes g c =
+pub times-requires-clause-sizes : goal.times-requires-clause-sizes
+times-requires-clause-sizes g c =
     let value = g.S.Scalar.value in
     let M = c.args.order.now.n in
     let step = c.args.step.now in
@@ -52,10 +52,10 @@ returns g c e p q a b =
     let M = c.args.order.now.n in
     let step = c.args.step.now in
     let i = (phase_table step.inner).opposite q in
-    if_ok_all c.scale.result _ _ _ _ _ (λ z r k o v.
+    if_ok_all c.times.result _ _ _ _ _ (λ z r k o v.
     term_of e.is e.D e.E p q z
     (scaled M e.d (e.D.at i) c.index.result.now
     (family_item e.is e.D c.args.family.now e.fixed.read c.inverse.result c.index.result.now c.inverse.ensures.within c.index.ensures i
     (sym (c.inverse.ensures.inverse q b))) c.in_ok-factor.factor (trace_factor e.is e.E p q)
     (c.in_ok-factor.ensures.value e.is e.d e.E e.has_traces p q a b) z r k o v))
-    c.scale.ensures.rows c.scale.ensures.cols c.scale.ensures.order c.scale.ensures.value
+    c.times.ensures.rows c.times.ensures.cols c.times.ensures.order c.times.ensures.value
