@@ -114,9 +114,9 @@ centrings_refusal gs seeds kept Centrings inv s partial products small h =
 centrings_refusal gs seeds kept Memory inv s partial products small h = h
 
 pub group_stands : (gs seeds kept : List Op) (cs : List Vec3) → AreInvertible gs → AreSeeds gs seeds (length gs) → IsPartial seeds kept
-    → All (λ g. HasProducts kept (operation g).rotation seeds (length seeds)) kept → IsPartialLattice gs cs → IsSettled gs kept cs (length cs)
+    → All (λ g. HasProducts kept (operation g).rotation seeds (length seeds)) kept → IsPartialLattice gs cs → IsSettled gs seeds kept cs (length cs)
     → (g : Operation) → StandFor kept cs g ↔ Generated (operations gs) g
-group_stands gs seeds kept cs inv s partial products lattice settled g = stands_for_generated gs seeds kept cs inv partial lattice settled
+group_stands gs seeds kept cs inv s partial products lattice settled g = stands_for_generated gs seeds kept cs inv (seeded_all gs seeds s) s.from_list partial lattice settled
     (first_of kept partial.nonempty) (first_of cs lattice.nonempty)
     (λ k d l. (kept_all gs seeds kept inv s partial products k d l).generated) g
 
@@ -129,7 +129,7 @@ unfolding translation identity
 shift_of t = sub-null t
 
 pub few_centrings : (gs seeds kept : List Op) (cs : List Vec3) → AreInvertible gs → AreSeeds gs seeds (length gs) → IsPartial seeds kept
-    → All (λ g. HasProducts kept (operation g).rotation seeds (length seeds)) kept → IsPartialLattice gs cs → IsSettled gs kept cs (length cs)
+    → All (λ g. HasProducts kept (operation g).rotation seeds (length seeds)) kept → IsPartialLattice gs cs → IsSettled gs seeds kept cs (length cs)
     → HasFewCentrings (operations gs)
 few_centrings gs seeds kept cs inv s partial products lattice settled = record {
   centrings = map vector cs;
@@ -156,7 +156,7 @@ few_centrings gs seeds kept cs inv s partial products lattice settled = record {
         )
 
 pub accepted : (gs seeds kept : List Op) (cs : List Vec3) → AreInvertible gs → AreSeeds gs seeds (length gs) → IsPartial seeds kept
-    → All (λ g. HasProducts kept (operation g).rotation seeds (length seeds)) kept → IsPartialLattice gs cs → IsSettled gs kept cs (length cs)
+    → All (λ g. HasProducts kept (operation g).rotation seeds (length seeds)) kept → IsPartialLattice gs cs → IsSettled gs seeds kept cs (length cs)
     → HasSmallDenominator gs → IsAccepted gs
 accepted gs seeds kept cs inv s partial products lattice settled small = record {
   rotations = few_kept gs seeds kept inv (seeded_all gs seeds s) partial products (first_of kept partial.nonempty);
@@ -165,7 +165,7 @@ accepted gs seeds kept cs inv s partial products lattice settled small = record 
 }
 
 pub is_closing : (gs seeds kept : List Op) (cs : List Vec3) → AreInvertible gs → AreSeeds gs seeds (length gs) → IsPartial seeds kept
-    → All (λ g. HasProducts kept (operation g).rotation seeds (length seeds)) kept → IsPartialLattice gs cs → IsSettled gs kept cs (length cs)
+    → All (λ g. HasProducts kept (operation g).rotation seeds (length seeds)) kept → IsPartialLattice gs cs → IsSettled gs seeds kept cs (length cs)
     → HasSmallDenominator gs → IsClosing kept cs
 is_closing gs seeds kept cs inv s partial products lattice settled small =
     let all = kept_all gs seeds kept inv s partial products in
@@ -180,7 +180,7 @@ is_closing gs seeds kept cs inv s partial products lattice settled small =
       few_centrings = lattice.few;
       in_cell = λ k d l. (lattice.centrings k d l).in_cell;
       distinct_centrings = lattice.distinct;
-      lattice = record { whole = whole_in gs kept cs lattice settled e; difference = difference_in gs kept cs lattice settled e };
+      lattice = record { whole = whole_in gs seeds kept cs lattice settled e; difference = difference_in gs seeds kept cs lattice settled e };
       rotations = kept_rotations gs seeds kept inv s partial products;
       denominator = record {
         common = small.common;

@@ -1,12 +1,12 @@
 -- The translations of a list as it grows to a closed one.
 --   lattice_in_cell, lattice_over      the translations are in the cell over one small denominator
---   kept_reduced, kept_generator       kept operations may be multiplied
---   over_generators, over_kept         all vectors are over one small denominator
---   from_generators, from_kept         products come from the generators
+--   kept_reduced                       kept operations may be multiplied
+--   over_generators, over_seeds        all vectors are over one small denominator
+--   from_generators, from_seeds        products come from the generators
 --   start_lattice                      the list of 0
---   gathered_start, gathered_more      the translations of the products with the generators, and with the kept operations
+--   gathered_start, gathered_more      the translations of the products with the generators, and with the seeds
 --   settled_start, settled_more        the differences and the turned ones of no translation, and of one more
-use Rattle.std.proofs.Common.{◌≡◌, sym, ◌∙◌, ap, subst, refl, ℕ, ◌<◌, ◌≤◌, ◌+◌, inl, inr, List, [], ◌∷◌, length, get_or, unsigned_abs, arith}
+use Rattle.std.proofs.Common.{◌≡◌, sym, ◌∙◌, ap, subst, refl, ℕ, ◌<◌, ◌≤◌, ◌+◌, inl, inr, List, [], ◌∷◌, length, get_or, arith}
 use Rattle.std.specs.List.{All, HoldsAt}
 use Rattle.std.specs.Int.{◌∣◌}
 use Rattle.std.proofs.lemmas.List.{get_or_default}
@@ -20,17 +20,15 @@ use Rattle.irr_space.specs.SpaceGroup.Generated.{one}
 use Rattle.irr_space.specs.CanonicalOperation.{IsInCell}
 use Rattle.irr_lattice.proofs.Translations.{translation-null}
 use Rattle.irr_lattice.proofs.OneOperation.{identity_canonical}
-use Rattle.irr_rational.specs.Ratio.{entry}
 use Rattle.irr_rat.specs.VectorMeaning.{vector}
 use Rattle.irr_rat.specs.declared.vec3.Vec3.{Vec3}
 use Rattle.irr_seitz.specs.OperationMeaning.{operation}
 use Rattle.irr_seitz.specs.declared.op.Op.{Op}
 use Rattle.irr_close.specs.Limits.{operations, HasSmallDenominator}
-use Rattle.irr_close.specs.Closing.{IsGenerator, IsKept, IsLonger}
-use Rattle.irr_close.specs.Centring.{AreInvertible, IsReducedOperation, AreInCell, AreOver, AreOverOne, AreFrom, IsCentring, HasQuotient, HasBothDifferences, IsPartialLattice, IsGathered, IsSettled}
-use Rattle.irr_close.proofs.Denominators.{small_numerators}
+use Rattle.irr_close.specs.Closing.{IsGenerator, IsKept, IsOneOf, IsLonger}
+use Rattle.irr_close.specs.Centring.{AreInvertible, IsReducedOperation, AreInCell, AreOver, AreOverOne, AreFrom, IsCentring, IsFactor, HasQuotient, HasBothDifferences, IsPartialLattice, IsGathered, IsSettled}
 use Rattle.irr_close.proofs.Keeping.{generated_at, longer-at, longer-length, longer_trans}
-use Rattle.irr_close.proofs.Lattice.{divisor_small, translation_longer, has_quotient_longer}
+use Rattle.irr_close.proofs.Lattice.{translation_longer, has_quotient_longer}
 
 pub lattice_in_cell : (gs : List Op) (cs : List Vec3) → HasSmallDenominator gs → IsPartialLattice gs cs → AreInCell cs
 lattice_in_cell gs cs c p = record {
@@ -53,19 +51,6 @@ lattice_over gs kept cs c all p = record {
 pub kept_reduced : (gs kept : List Op) → All (IsKept gs) kept → All IsReducedOperation kept
 kept_reduced gs kept all k d l = record { within = (all k d l).within; in_cell = (all k d l).in_cell }
 
-kept_small : (gs : List Op) (g : Op) → HasSmallDenominator gs → IsKept gs g → g.den ≤ 100000
-kept_small gs g c k = divisor_small g.den c.common c.positive c.small (k.divides c.common c.positive c.multiple)
-
-kept_numbers : (gs : List Op) (g : Op) → HasSmallDenominator gs → IsKept gs g → IsGenerator g
-kept_numbers gs g c k = record {
-  within = k.within;
-  numerators = λ i. (let a : unsigned_abs (entry g.num i) ≤ g.den = small_numerators g.num g.den g.lowest.positive k.in_cell
-      i in let b : g.den ≤ 100000 = kept_small gs g c k in omega arith);
-}
-
-pub kept_generator : (gs kept : List Op) → HasSmallDenominator gs → All (IsKept gs) kept → All IsGenerator kept
-kept_generator gs kept c all k d l = kept_numbers gs (get_or kept k d) c (all k d l)
-
 pub over_generators : (gs kept : List Op) (op : Op) → HasSmallDenominator gs → All (IsKept gs) kept → IsKept gs op → AreOver kept op gs
 over_generators gs kept op c all h = record {
   common = c.common;
@@ -76,14 +61,15 @@ over_generators gs kept op c all h = record {
   factors_divide = c.multiple;
 }
 
-pub over_kept : (gs kept : List Op) (op : Op) → HasSmallDenominator gs → All (IsKept gs) kept → IsKept gs op → AreOver kept op kept
-over_kept gs kept op c all h = record {
+pub over_seeds : (gs seeds kept : List Op) (op : Op) → HasSmallDenominator gs → All (IsOneOf gs) seeds → All (IsKept gs) kept → IsKept gs op
+    → AreOver kept op seeds
+over_seeds gs seeds kept op c from all h = record {
   common = c.common;
   positive = c.positive;
   small = c.small;
   kept_divide = λ k d l. (all k d l).divides c.common c.positive c.multiple;
   op_divides = h.divides c.common c.positive c.multiple;
-  factors_divide = λ k d l. (all k d l).divides c.common c.positive c.multiple;
+  factors_divide = λ k d l. (let o = from k d l in subst (λ (x : Op). x.den ∣ c.common) (o.2 d) (c.multiple o.0 d o.1));
 }
 
 pub from_generators : (gs kept : List Op) (op : Op) → AreInvertible gs → All IsGenerator gs → All (IsKept gs) kept → IsKept gs op
@@ -95,18 +81,14 @@ from_generators gs kept op inv numbers all h = record {
   factors_from = λ k d l. record { generated = generated_at gs k d l; numbers = numbers k d l; divides = λ D p den. den k d l };
 }
 
-pub from_kept : (gs kept : List Op) (op : Op) → HasSmallDenominator gs → AreInvertible gs → All (IsKept gs) kept → IsKept gs op
-    → AreFrom gs kept op kept
-from_kept gs kept op c inv all h = record {
+pub from_seeds : (gs seeds kept : List Op) (op : Op) → AreInvertible gs → All IsGenerator gs → All (IsOneOf gs) seeds → All (IsKept gs) kept
+    → IsKept gs op → AreFrom gs kept op seeds
+from_seeds gs seeds kept op inv numbers from all h = record {
   invertible = inv;
   kept_from = all;
   op_from = h;
-  factors_from = λ k d l. record {
-    generated = (all k d l).generated;
-    numbers = kept_numbers gs (get_or kept k d) c (all k d l);
-    divides =
-        (all k d l).divides;
-  };
+  factors_from = λ k d l. (let o = from k d l in subst (IsFactor gs) (o.2 d)
+      (record { generated = generated_at gs o.0 d o.1; numbers = numbers o.0 d o.1; divides = λ D p den. den o.0 d o.1 }));
 }
 
 identity-vector : identity.vector ≡ null
@@ -130,33 +112,35 @@ all_longer : (kept : List Op) (old new : List Vec3) (g : Operation) (xs : List O
     → All (λ s. HasQuotient kept old g (operation s)) xs → All (λ s. HasQuotient kept new g (operation s)) xs
 all_longer kept old new g xs t h k d l = has_quotient_longer kept old new g (operation (get_or xs k d)) t (h k d l)
 
-gathered_longer : (gs kept : List Op) (old new : List Vec3) (n : ℕ) → IsLonger old new → IsGathered gs kept old n → IsGathered gs kept new n
-gathered_longer gs kept old new n t h = record {
+gathered_longer : (gs seeds kept : List Op) (old new : List Vec3) (n : ℕ) → IsLonger old new → IsGathered gs seeds kept old n
+    → IsGathered gs seeds kept new n
+gathered_longer gs seeds kept old new n t h = record {
   generators_in = λ d. all_longer kept old new (operation (get_or kept 0 d)) gs t (h.generators_in d);
-  products_in = λ j l d. all_longer kept old new (operation (get_or kept j d)) kept t (h.products_in j l d);
+  products_in = λ j l d. all_longer kept old new (operation (get_or kept j d)) seeds t (h.products_in j l d);
 }
 
-pub gathered_start : (gs kept : List Op) (cs : List Vec3) (op : Op) → 0 < length kept → op ≡ get_or kept 0 op
-    → All (λ s. HasQuotient kept cs (operation op) (operation s)) gs → IsGathered gs kept cs 0
-gathered_start gs kept cs op l e h = record {
+pub gathered_start : (gs seeds kept : List Op) (cs : List Vec3) (op : Op) → 0 < length kept → op ≡ get_or kept 0 op
+    → All (λ s. HasQuotient kept cs (operation op) (operation s)) gs → IsGathered gs seeds kept cs 0
+gathered_start gs seeds kept cs op l e h = record {
   generators_in = λ d. subst (λ (g : Op). All (λ s. HasQuotient kept cs (operation g) (operation s)) gs) (e ∙ get_or_default kept 0 op d l) h;
   products_in = λ j m. absurd (omega arith);
 }
 
-pub gathered_more : (gs kept : List Op) (old new : List Vec3) (op : Op) (n : ℕ) → n < length kept → op ≡ get_or kept n op → IsLonger old new
-    → All (λ s. HasQuotient kept new (operation op) (operation s)) kept
-    → IsGathered gs kept old n → IsGathered gs kept new (n + 1)
-gathered_more gs kept old new op n l e t q h = let g = gathered_longer gs kept old new n t h in record {
+pub gathered_more : (gs seeds kept : List Op) (old new : List Vec3) (op : Op) (n : ℕ) → n < length kept → op ≡ get_or kept n op → IsLonger old new
+    → All (λ s. HasQuotient kept new (operation op) (operation s)) seeds
+    → IsGathered gs seeds kept old n → IsGathered gs seeds kept new (n + 1)
+gathered_more gs seeds kept old new op n l e t q h = let g = gathered_longer gs seeds kept old new n t h in record {
   generators_in = g.generators_in;
   products_in = λ j m d. elim (cases_lt j n) [
     | inl less ↦ g.products_in j less d
-    | inr last ↦ (let p : n ≡ j = omega arith in subst (λ (x : Op). All (λ s. HasQuotient kept new (operation x) (operation s)) kept) (e
+    | inr last ↦ (let p : n ≡ j = omega arith in subst (λ (x : Op). All (λ s. HasQuotient kept new (operation x) (operation s)) seeds) (e
         ∙ get_or_default kept n op d l ∙ ap (λ k. get_or kept k d) p) q)
   ];
 }
 
-pub settled_start : (gs kept : List Op) (cs : List Vec3) (n : ℕ) → length kept ≤ n → IsGathered gs kept cs n → IsSettled gs kept cs 0
-settled_start gs kept cs n l h = record {
+pub settled_start : (gs seeds kept : List Op) (cs : List Vec3) (n : ℕ) → length kept ≤ n → IsGathered gs seeds kept cs n
+    → IsSettled gs seeds kept cs 0
+settled_start gs seeds kept cs n l h = record {
   gathered = record { generators_in = h.generators_in; products_in = λ j m. h.products_in j (omega arith) };
   differences = λ i m. absurd (omega arith);
   turned = λ i m. absurd (omega arith);
@@ -175,12 +159,12 @@ differences_longer : (old new : List Vec3) (i : ℕ) → IsLonger old new → i 
 differences_longer old new i t l h = moved old new (λ a. (j : ℕ) → j ≤ i → HoldsAt (λ b. HasBothDifferences new a b) new j) i t l
     (λ d j m. moved old new (HasBothDifferences new (get_or old i d)) j t (omega arith) (h d j m))
 
-pub settled_more : (gs kept : List Op) (old mid new : List Vec3) (i : ℕ) → i < length old → IsLonger old mid → IsLonger mid new
-    → IsSettled gs kept old i
+pub settled_more : (gs seeds kept : List Op) (old mid new : List Vec3) (i : ℕ) → i < length old → IsLonger old mid → IsLonger mid new
+    → IsSettled gs seeds kept old i
     → HoldsAt (λ a. (j : ℕ) → j ≤ i → HoldsAt (λ b. HasBothDifferences mid a b) old j) old i
-    → HoldsAt (λ c. All (λ g. HasQuotient kept new (operation g) (translation (vector c))) kept) mid i → IsSettled gs kept new (i + 1)
-settled_more gs kept old mid new i l s t h both turns = record {
-  gathered = gathered_longer gs kept old new (length kept) all h.gathered;
+    → HoldsAt (λ c. All (λ g. HasQuotient kept new (operation g) (translation (vector c))) kept) mid i → IsSettled gs seeds kept new (i + 1)
+settled_more gs seeds kept old mid new i l s t h both turns = record {
+  gathered = gathered_longer gs seeds kept old new (length kept) all h.gathered;
   differences = λ k m. elim (cases_lt k i) [
     | inl less ↦ differences_longer old new k all (omega arith)
         (λ d j q b. both_longer old new (get_or old k d) (get_or old j b) all (h.differences k less d j q b))

@@ -24,7 +24,7 @@ use Rattle.irr_seitz.specs.OperationMeaning.{operation}
 use Rattle.irr_seitz.specs.declared.op.Op.{Op}
 use Rattle.irr_close.specs.Whole.{IsWholeVector}
 use Rattle.irr_close.specs.Limits.{operations}
-use Rattle.irr_close.specs.Closing.{IsPartial, HasRotation, HasProducts}
+use Rattle.irr_close.specs.Closing.{IsOneOf, IsPartial, HasRotation, HasProducts}
 use Rattle.irr_close.specs.Centring.{AreInvertible, HasTranslation, HasQuotient, IsPartialLattice, IsSettled}
 use Rattle.irr_close.specs.Standing.{StandFor}
 use Rattle.irr_close.proofs.Closure.{IsClosed, IsStoodFor, stood_of_generated, generated_of_stood, turned_whole, whole_flipped, sum_as_difference, null_whole, identity-product}
@@ -97,7 +97,7 @@ regrouped a b c e f p q r i = subst IsWhole (entry rationals (a.at i first) (b.a
     entry R x y z w u = simp (ring_laws, R)
 
 -- a list of translations with 0 and with its differences
-module _ (gs kept : List Op) (cs : List Vec3) (lattice : IsPartialLattice gs cs) (settled : IsSettled gs kept cs (length cs)) (e : Vec3) where
+module _ (gs seeds kept : List Op) (cs : List Vec3) (lattice : IsPartialLattice gs cs) (settled : IsSettled gs seeds kept cs (length cs)) (e : Vec3) where
   pub whole_in : (v : Vector) → IsWholeVector v → HasTranslation cs v
   whole_in v h = (0, lattice.nonempty, λ f. subst IsWholeVector (sym (ap (λ (w : Vector). v ⊖ w) (lattice.zero_first f) ∙ sub-null v)) h)
 
@@ -135,6 +135,13 @@ by_way_of a r s v = matrix-ext (λ i j. entry rationals (a.at i j) (r.at i j) (s
     entry : (R : Ring) (x y z w : R.Carrier) → R.add (R.add (R.add x y) (R.neg w)) (R.add z (R.neg y)) ≡ R.add (R.add x z) (R.neg w)
     entry R x y z w = simp (ring_laws, R)
 
+apart_from : (a b c : Vector) → (a ⊖ c) ⊖ (b ⊖ c) ≡ a ⊖ b
+unfolding ◌⊖◌
+apart_from a b c = matrix-ext (λ i j. entry rationals (a.at i j) (b.at i j) (c.at i j))
+  where
+    entry : (R : Ring) (x y z : R.Carrier) → R.add (R.add x (R.neg z)) (R.neg (R.add y (R.neg z))) ≡ R.add x (R.neg y)
+    entry R x y z = simp (ring_laws, R)
+
 pub same_index : (ops : List Op) (d : Op) → AllPairs (λ g h. ¬ ((operation g).rotation ≡ (operation h).rotation)) ops → (i j : ℕ) → i < length ops
     → j < length ops
     → (operation (get_or ops i d)).rotation ≡ (operation (get_or ops j d)).rotation → i ≡ j
@@ -155,13 +162,22 @@ product-vector : (g h : Operation) → (g ⊙ h).vector ≡ g.vector ⊕ (whole_
 unfolding ◌⊙◌
 product-vector g h = refl
 
--- the kept operations with the identity first and no rotation twice, and a settled list of translations
-module _ (gs seeds kept : List Op) (cs : List Vec3) (inv : AreInvertible gs) (partial : IsPartial seeds kept) (lattice : IsPartialLattice gs cs)
-    (settled : IsSettled gs kept cs (length cs)) (d : Op) (e : Vec3) where
+-- a listed operation as one of the operations
+listed : (gs : List Op) (g : Op) → IsOneOf gs g → Contains (operations gs) (operation g)
+listed gs g h = (
+  h.0,
+  subst (λ n. h.0 < n) (sym (length-map gs operation)) h.1,
+  get_or-map operation gs h.0 g (operation g) h.1 ∙ ap operation (h.2 g),
+)
+
+-- the kept operations with the identity first and no rotation twice, and a settled list of translations; a seed has each generator's rotation
+module _ (gs seeds kept : List Op) (cs : List Vec3) (inv : AreInvertible gs) (seeded : All (λ s. HasRotation seeds (operation s).rotation) gs)
+    (from : All (IsOneOf gs) seeds) (partial : IsPartial seeds kept) (lattice : IsPartialLattice gs cs)
+    (settled : IsSettled gs seeds kept cs (length cs)) (d : Op) (e : Vec3) where
   sum_in : (a b : Vector) → HasTranslation cs a → HasTranslation cs b → HasTranslation cs (a ⊕ b)
   sum_in a b p q = subst (HasTranslation cs) (sum_as_difference a b)
-      (difference_in gs kept cs lattice settled e a (null ⊖ b) p
-      (difference_in gs kept cs lattice settled e null b (whole_in gs kept cs lattice settled e null null_whole) q))
+      (difference_in gs seeds kept cs lattice settled e a (null ⊖ b) p
+      (difference_in gs seeds kept cs lattice settled e null b (whole_in gs seeds kept cs lattice settled e null null_whole) q))
 
   -- a translation of the list, turned by a kept rotation
   turned_listed : (i k : ℕ) → i < length kept → k < length cs
@@ -205,7 +221,35 @@ module _ (gs seeds kept : List Op) (cs : List Vec3) (inv : AreInvertible gs) (pa
       q = subst (λ (g : Operation). HasQuotient kept cs g s) (partial.identity_first d)
           (subst (HasQuotient kept cs (operation (get_or kept 0 d))) p.1 (settled.gathered.generators_in d m.0 d p.0))
 
-  -- so is the product of a kept operation and a generator
+  -- a generator is a seed after a translation of the list
+  seed_of_generator : (s : Operation) → Contains (operations gs) s
+      → (k : ℕ) × (k < length seeds) × ((operation (get_or seeds k d)).rotation ≡ s.rotation)
+      × HasTranslation cs (s.vector ⊖ (operation (get_or seeds k d)).vector)
+  seed_of_generator s m = (
+    h.0,
+    h.1,
+    h.2 d,
+    subst (HasTranslation cs) (apart_from s.vector (operation (get_or seeds h.0 d)).vector (operation (get_or kept t.0 d)).vector)
+        (difference_in gs seeds kept cs lattice settled e (s.vector ⊖ (operation (get_or kept t.0 d)).vector)
+        ((operation (get_or seeds h.0 d)).vector ⊖ (operation (get_or kept t.0 d)).vector) t.3
+        (subst (λ n. HasTranslation cs ((operation (get_or seeds h.0 d)).vector ⊖ (operation (get_or kept n d)).vector)) same u.3)),
+  )
+    where
+      h : HasRotation seeds s.rotation
+      h = let p = contained_place gs s d m in subst (λ (g : Operation). HasRotation seeds g.rotation) p.1 (seeded m.0 d p.0)
+
+      t : (k : ℕ) × (k < length kept) × ((operation (get_or kept k d)).rotation ≡ s.rotation)
+          × HasTranslation cs (s.vector ⊖ (operation (get_or kept k d)).vector)
+      t = kept_of_generator s m
+
+      u : (k : ℕ) × (k < length kept) × ((operation (get_or kept k d)).rotation ≡ (operation (get_or seeds h.0 d)).rotation)
+          × HasTranslation cs ((operation (get_or seeds h.0 d)).vector ⊖ (operation (get_or kept k d)).vector)
+      u = kept_of_generator (operation (get_or seeds h.0 d)) (listed gs (get_or seeds h.0 d) (from h.0 d h.1))
+
+      same : u.0 ≡ t.0
+      same = same_index kept d partial.distinct u.0 t.0 u.1 t.1 (u.2 ∙ h.2 d ∙ sym t.2)
+
+  -- so is the product of a kept operation and a generator a kept one after a translation of the list
   next_kept : (i : ℕ) (s : Operation) → i < length kept → Contains (operations gs) s
       → (k : ℕ) × (k < length kept) × ((operation (get_or kept k d)).rotation ≡ (operation (get_or kept i d)).rotation · s.rotation)
       × HasTranslation cs ((operation (get_or kept i d) ⊙ s).vector ⊖ (operation (get_or kept k d)).vector)
@@ -214,36 +258,36 @@ module _ (gs seeds kept : List Op) (cs : List Vec3) (inv : AreInvertible gs) (pa
     q.1,
     (q.2 d).0 ∙ ap (λ (R : Rotation). (operation (get_or kept i d)).rotation · R) t.2,
     subst (HasTranslation cs) all
-        (sum_in ((operation (get_or kept i d) ⊙ operation (get_or kept t.0 d)).vector ⊖ (operation (get_or kept q.0 d)).vector)
-        (whole_matrix rationals (operation (get_or kept i d)).rotation · (s.vector ⊖ (operation (get_or kept t.0 d)).vector))
-        (q.2 d).1 (turned_in i (s.vector ⊖ (operation (get_or kept t.0 d)).vector) l t.3)),
+        (sum_in ((operation (get_or kept i d) ⊙ operation (get_or seeds t.0 d)).vector ⊖ (operation (get_or kept q.0 d)).vector)
+        (whole_matrix rationals (operation (get_or kept i d)).rotation · (s.vector ⊖ (operation (get_or seeds t.0 d)).vector))
+        (q.2 d).1 (turned_in i (s.vector ⊖ (operation (get_or seeds t.0 d)).vector) l t.3)),
   )
     where
-      t : (k : ℕ) × (k < length kept) × ((operation (get_or kept k d)).rotation ≡ s.rotation)
-          × HasTranslation cs (s.vector ⊖ (operation (get_or kept k d)).vector)
-      t = kept_of_generator s m
+      t : (k : ℕ) × (k < length seeds) × ((operation (get_or seeds k d)).rotation ≡ s.rotation)
+          × HasTranslation cs (s.vector ⊖ (operation (get_or seeds k d)).vector)
+      t = seed_of_generator s m
 
-      q : HasQuotient kept cs (operation (get_or kept i d)) (operation (get_or kept t.0 d))
+      q : HasQuotient kept cs (operation (get_or kept i d)) (operation (get_or seeds t.0 d))
       q = settled.gathered.products_in i l d t.0 d t.1
 
-      all : ((operation (get_or kept i d) ⊙ operation (get_or kept t.0 d)).vector ⊖ (operation (get_or kept q.0 d)).vector) ⊕
-          (whole_matrix rationals (operation (get_or kept i d)).rotation · (s.vector ⊖ (operation (get_or kept t.0 d)).vector))
+      all : ((operation (get_or kept i d) ⊙ operation (get_or seeds t.0 d)).vector ⊖ (operation (get_or kept q.0 d)).vector) ⊕
+          (whole_matrix rationals (operation (get_or kept i d)).rotation · (s.vector ⊖ (operation (get_or seeds t.0 d)).vector))
           ≡ (operation (get_or kept i d) ⊙ s).vector ⊖ (operation (get_or kept q.0 d)).vector
-      all = ap (λ (v : Vector). ((operation (get_or kept i d) ⊙ operation (get_or kept t.0 d)).vector ⊖ (operation (get_or kept q.0 d)).vector) ⊕ v)
-          (mul-sub (whole_matrix rationals (operation (get_or kept i d)).rotation) s.vector (operation (get_or kept t.0 d)).vector)
+      all = ap (λ (v : Vector). ((operation (get_or kept i d) ⊙ operation (get_or seeds t.0 d)).vector ⊖ (operation (get_or kept q.0 d)).vector) ⊕ v)
+          (mul-sub (whole_matrix rationals (operation (get_or kept i d)).rotation) s.vector (operation (get_or seeds t.0 d)).vector)
           ∙ ap (λ (v : Vector). (v ⊖ (operation (get_or kept q.0 d)).vector) ⊕
           ((whole_matrix rationals (operation (get_or kept i d)).rotation · s.vector) ⊖ (whole_matrix rationals
-          (operation (get_or kept i d)).rotation · (operation (get_or kept t.0 d)).vector)))
-          (product-vector (operation (get_or kept i d)) (operation (get_or kept t.0 d)))
+          (operation (get_or kept i d)).rotation · (operation (get_or seeds t.0 d)).vector)))
+          (product-vector (operation (get_or kept i d)) (operation (get_or seeds t.0 d)))
           ∙ by_way_of (operation (get_or kept i d)).vector
-          (whole_matrix rationals (operation (get_or kept i d)).rotation · (operation (get_or kept t.0 d)).vector)
+          (whole_matrix rationals (operation (get_or kept i d)).rotation · (operation (get_or seeds t.0 d)).vector)
           (whole_matrix rationals (operation (get_or kept i d)).rotation · s.vector) (operation (get_or kept q.0 d)).vector
           ∙ ap (λ (v : Vector). v ⊖ (operation (get_or kept q.0 d)).vector) (sym (product-vector (operation (get_or kept i d)) s))
 
   closed : IsClosed (operations gs) (length kept) (indexed kept d) (HasTranslation cs)
   closed = record {
-    whole = whole_in gs kept cs lattice settled e;
-    difference = difference_in gs kept cs lattice settled e;
+    whole = whole_in gs seeds kept cs lattice settled e;
+    difference = difference_in gs seeds kept cs lattice settled e;
     unit_place = from_nat (length kept) 0 partial.nonempty;
     unit_kept = indexed-from_nat kept d 0 partial.nonempty ∙ partial.identity_first d;
     distinct = indexed_distinct kept d partial.distinct;

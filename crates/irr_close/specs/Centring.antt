@@ -128,13 +128,13 @@ pub record AreOverOne (kept : List Op) (cs : List Vec3) : Type 0 where
   pub kept_divide : All (λ g. g.den ∣ common) kept
   pub divide : All (λ c. c.den ∣ common) cs
 
--- the translations after kept operations in the products of kept operations with generators and with each other
-pub record IsGathered (gs kept : List Op) (cs : List Vec3) (n : ℕ) : Type 0 where
+-- the translations after kept operations in the products of the first with the generators, and of each with some factors
+pub record IsGathered (gs factors kept : List Op) (cs : List Vec3) (n : ℕ) : Type 0 where
   pub generators_in : HoldsAt (λ g. All (λ s. HasQuotient kept cs (operation g) (operation s)) gs) kept 0
-  pub products_in : (j : ℕ) → j < n → HoldsAt (λ g. All (λ h. HasQuotient kept cs (operation g) (operation h)) kept) kept j
+  pub products_in : (j : ℕ) → j < n → HoldsAt (λ g. All (λ s. HasQuotient kept cs (operation g) (operation s)) factors) kept j
 
 -- and the differences and the turned ones of the first n translations
-pub record IsSettled (gs kept : List Op) (cs : List Vec3) (n : ℕ) : Type 0 where
-  pub gathered : IsGathered gs kept cs (length kept)
+pub record IsSettled (gs factors kept : List Op) (cs : List Vec3) (n : ℕ) : Type 0 where
+  pub gathered : IsGathered gs factors kept cs (length kept)
   pub differences : (i : ℕ) → i < n → HoldsAt (λ a. (j : ℕ) → j ≤ i → HoldsAt (λ b. HasBothDifferences cs a b) cs j) cs i
   pub turned : (i : ℕ) → i < n → HoldsAt (λ c. All (λ g. HasQuotient kept cs (operation g) (translation (vector c))) kept) cs i

@@ -12,7 +12,7 @@ ghost use Rattle.irr_seitz.specs.OperationMeaning.{operation};
 ghost use Rattle.irr_seitz.specs.Rotation.{rotation_of, IsWithin};
 ghost use Rattle.irr_close.specs.Limits.{HasSmallDenominator};
 ghost use Rattle.irr_close.specs.Whole.{IsWholeVector};
-ghost use Rattle.irr_close.specs.Closing.{IsGenerator, IsKept, HasRotation, IsLonger};
+ghost use Rattle.irr_close.specs.Closing.{IsGenerator, IsKept, IsOneOf, HasProducts, HasRotation, IsLonger};
 ghost use Rattle.irr_close.specs.Centring.{IsReducedOperation, AreInvertible, AreInCell, AreOverOne, HasBothDifferences, IsSettled, IsGatherRefusal, IsSubtractRefusal, IsTurnRefusal, AreOver, AreFrom, IsQuotient, IsFactor, IsCentring, HasTranslation, HasVector, HasQuotient, IsPartialLattice, IsWithCentring, IsAddRefusal, IsLatticeRefusal};
 
 use crate::CloseError;
@@ -202,28 +202,32 @@ pub fn zero() -> Vec3
 }
 
 /// The translations of the generated group modulo the whole ones, 0 first, where the kept operations have
-/// each generated rotation once.
+/// each generated rotation once, and the seeds are generators of which one has each generator's rotation: those
+/// after kept operations in the products of these and the seeds, closed under differences and rotations (Schreier's
+/// lemma).
 pub fn close_centrings(
     alloc: Global,
     generators: &[Op],
+    seeds: &[Op],
     kept: &[Op],
 ) -> Result<Vec<Vec3>, CloseError>
     requires generators { All IsGenerator generators.now }
     requires invertible { AreInvertible generators.now }
     requires denominator { HasSmallDenominator generators.now }
+    requires seeds { All (IsOneOf generators.now) seeds.now }
     requires nonempty { 0 < length kept.now }
     requires kept { All (IsKept generators.now) kept.now }
     requires rotations { HoldsAt (λ g. All (λ s. HasRotation kept.now ((operation g).rotation · (operation s).rotation)) generators.now) kept.now 0 }
-    requires products { All (λ g. All (λ h. HasRotation kept.now ((operation g).rotation · (operation h).rotation)) kept.now) kept.now }
+    requires products { All (λ g. HasProducts kept.now (operation g).rotation seeds.now (length seeds.now)) kept.now }
     ensures lattice { IfOk result (λ cs. IsPartialLattice generators.now cs.items) }
-    ensures settled { IfOk result (λ cs. IsSettled generators.now kept.now cs.items (length cs.items)) }
+    ensures settled { IfOk result (λ cs. IsSettled generators.now seeds.now kept.now cs.items (length cs.items)) }
     ensures refused { IfErr result (IsLatticeRefusal generators.now) }
 {
     let mut centrings = Vec::new(alloc);
     centrings.push(zero())?;
     gather(&mut centrings, kept, &kept[0], generators)?;
     for op in kept {
-        gather(&mut centrings, kept, op, kept)?;
+        gather(&mut centrings, kept, op, seeds)?;
     }
     let mut i = 0;
     while i < centrings.len() {

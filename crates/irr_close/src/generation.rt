@@ -47,7 +47,7 @@ fn close_distinct(alloc: Global, generators: &[Op], phase: Phase) -> Result<Grou
         return Err(CloseError::Denominator);
     }
     let ops = close_rotations(alloc, &seeds)?;
-    let centrings = close_centrings(alloc, generators, &ops)?;
+    let centrings = close_centrings(alloc, generators, &seeds, &ops)?;
     let group = Group::new(alloc, ops.as_slice(), centrings, phase)?;
     Ok(group)
 }

@@ -64,52 +64,39 @@ fn table(
     requires places { AreLittlePlaces group.now (wave_vector k.now) places.items }
     ensures { IfOk result (λ t. IsLittleTable group.now (wave_vector k.now) (operation_places t) (phase_table t)) }
 {
-    let products = products(alloc, group, &places)?;
-    let exponents = exponents(alloc, group, k, order, &places)?;
+    let (products, exponents) = entries(alloc, group, k, order, &places)?;
     let t = Twisted::new(alloc, order, products, exponents, places)?;
     Ok(t)
 }
 
-// The products, as positions among the places, row by row.
-fn products(alloc: Global, group: &Group, places: &[u32]) -> Result<Vec<u32>, Memory>
-    requires closed { AreClosed group.now places.now }
-    ensures full { IfOk result (λ v. length v.items ≡ length places.now * length places.now) }
-    ensures entries { IfOk result (λ v. AreEntries (length places.now) (IsProductEntry group.now places.now) v.items) }
-{
-    let mut products = Vec::new(alloc);
-    for &i in places {
-        for &j in places {
-            let shifted = product(group, i as usize, j as usize);
-            products.push(position(places, shifted.op))?;
-        }
-    }
-    Ok(products)
-}
-
-// The exponents of the phases, row by row.
-fn exponents(
+// The products, as positions among the places, and the exponents of their phases, row by row.
+fn entries(
     alloc: Global,
     group: &Group,
     k: &Wave,
     order: u32,
     places: &[u32],
-) -> Result<Vec<u32>, Memory>
+) -> Result<(Vec<u32>, Vec<u32>), Memory>
     requires limits { IsWithinLimits k.now }
     requires order { IsOrder (stands_for group.now) (wave_vector k.now) order }
     requires within { order ≤ ORDER_LIMIT }
     requires closed { AreClosed group.now places.now }
-    ensures full { IfOk result (λ v. length v.items ≡ length places.now * length places.now) }
-    ensures entries { IfOk result (λ v.
-        AreEntries (length places.now) (IsPhaseEntry group.now (wave_vector k.now) order places.now) v.items) }
+    ensures products { IfOk result (λ v. AreEntries (length places.now) (IsProductEntry group.now places.now) v.0.items) }
+    ensures exponents { IfOk result (λ v.
+        AreEntries (length places.now) (IsPhaseEntry group.now (wave_vector k.now) order places.now) v.1.items) }
+    ensures full { IfOk result (λ v. length v.0.items ≡ length places.now * length places.now) }
+    ensures all_exponents { IfOk result (λ v. length v.1.items ≡ length places.now * length places.now) }
 {
+    let mut products = Vec::new(alloc);
     let mut exponents = Vec::new(alloc);
     for &i in places {
         for &j in places {
             let both = product(group, i as usize, j as usize);
+            products.push(position(places, both.op))?;
             exponents.push(theta(group, order, k, &both.shift))?;
         }
     }
-    Ok(exponents)
+    Ok((products, exponents))
 }
 
 // The first position of a value in a list.

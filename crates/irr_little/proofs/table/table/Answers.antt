@@ -14,14 +14,8 @@ use Rattle.irr_little.proofs.Tables.{closed_places, some_place, lists_group, lis
 use Rattle.irr_close.proofs.SpaceGroups.{space_group}
 use Rattle.irr_little.proofs.table.table.Goals as goal
 
-pub products-requires : goal.products-requires
-products-requires c = record {
-  closed = subst (AreClosed c.args.group.now) (sym c.deref.ensures.value)
-      (closed_places c.args.group.now (space_group c.args.group.now) (wave_vector c.args.k.now) c.args.places.items c.requires.places);
-}
-
-pub exponents-requires-clause-closed : goal.exponents-requires-clause-closed
-exponents-requires-clause-closed c = subst (AreClosed c.args.group.now) (sym c.deref-2.ensures.value)
+pub entries-requires-clause-closed : goal.entries-requires-clause-closed
+entries-requires-clause-closed c = subst (AreClosed c.args.group.now) (sym c.deref.ensures.value)
     (closed_places c.args.group.now (space_group c.args.group.now) (wave_vector c.args.k.now) c.args.places.items c.requires.places)
 
 products_in : (group : Group) (xs ys zs : List ℕ) → xs ≡ ys → AreEntries (length xs) (IsProductEntry group xs) zs → AreEntries (length ys)
@@ -48,34 +42,34 @@ pub new-requires-clause-group : goal.new-requires-clause-group
 new-requires-clause-group c = lists_group c.args.group.now (space_group c.args.group.now)
     (wave_vector c.args.k.now) c.args.places.items c.requires.places
     (vec_len c.args.places) c.args.places.ok.0 c.args.order c.requires.order
-    c.in_ok-products.products.items c.in_ok-exponents.exponents.items
+    c.in_ok-products.products.items c.in_ok-products.exponents.items
     (products_in c.args.group.now c.deref.result.now c.args.places.items c.in_ok-products.products.items c.deref.ensures.value
-    c.in_ok-products.ensures.entries)
+    c.in_ok-products.ensures.products)
     (exponents_in c.args.group.now
-    (wave_vector c.args.k.now) c.args.order c.deref-2.result.now c.args.places.items c.in_ok-exponents.exponents.items c.deref-2.ensures.value
-    c.in_ok-exponents.ensures.entries)
+    (wave_vector c.args.k.now) c.args.order c.deref.result.now c.args.places.items c.in_ok-products.exponents.items c.deref.ensures.value
+    c.in_ok-products.ensures.exponents)
 
 pub new-requires-clause-inverses : goal.new-requires-clause-inverses
 new-requires-clause-inverses c = lists_inverses c.args.group.now (space_group c.args.group.now)
     (wave_vector c.args.k.now) c.args.places.items c.requires.places
     (vec_len c.args.places) c.args.places.ok.0 c.args.order c.requires.order
-    c.in_ok-products.products.items c.in_ok-exponents.exponents.items
+    c.in_ok-products.products.items c.in_ok-products.exponents.items
     (products_in c.args.group.now c.deref.result.now c.args.places.items c.in_ok-products.products.items c.deref.ensures.value
-    c.in_ok-products.ensures.entries)
+    c.in_ok-products.ensures.products)
     (exponents_in c.args.group.now
-    (wave_vector c.args.k.now) c.args.order c.deref-2.result.now c.args.places.items c.in_ok-exponents.exponents.items c.deref-2.ensures.value
-    c.in_ok-exponents.ensures.entries)
+    (wave_vector c.args.k.now) c.args.order c.deref.result.now c.args.places.items c.in_ok-products.exponents.items c.deref.ensures.value
+    c.in_ok-products.ensures.exponents)
 
 pub new-requires-clause-factors : goal.new-requires-clause-factors
 new-requires-clause-factors c = lists_factors c.args.group.now (space_group c.args.group.now)
     (wave_vector c.args.k.now) c.args.places.items c.requires.places
     (vec_len c.args.places) c.args.places.ok.0 c.args.order c.requires.order
-    c.in_ok-products.products.items c.in_ok-exponents.exponents.items
+    c.in_ok-products.products.items c.in_ok-products.exponents.items
     (products_in c.args.group.now c.deref.result.now c.args.places.items c.in_ok-products.products.items c.deref.ensures.value
-    c.in_ok-products.ensures.entries)
+    c.in_ok-products.ensures.products)
     (exponents_in c.args.group.now
-    (wave_vector c.args.k.now) c.args.order c.deref-2.result.now c.args.places.items c.in_ok-exponents.exponents.items c.deref-2.ensures.value
-    c.in_ok-exponents.ensures.entries)
+    (wave_vector c.args.k.now) c.args.order c.deref.result.now c.args.places.items c.in_ok-products.exponents.items c.deref.ensures.value
+    c.in_ok-products.ensures.exponents)
 
 pub returns : goal.returns
 returns c = subst (λ (ys : List ℕ). IsLittleTable c.args.group.now (wave_vector c.args.k.now) ys (phase_table c.in_ok-t.t))
@@ -83,10 +77,10 @@ returns c = subst (λ (ys : List ℕ). IsLittleTable c.args.group.now (wave_vect
     (table_of_lists c.args.group.now (space_group c.args.group.now) (wave_vector c.args.k.now) c.args.places.items c.requires.places
     (place_count c.in_ok-t.t)
     (c.in_ok-t.t.places.ok.0 ∙ ap length c.in_ok-t.ensures.places)
-    c.args.order c.requires.order c.in_ok-products.products.items c.in_ok-exponents.exponents.items
+    c.args.order c.requires.order c.in_ok-products.products.items c.in_ok-products.exponents.items
     (products_in c.args.group.now c.deref.result.now c.args.places.items c.in_ok-products.products.items c.deref.ensures.value
-    c.in_ok-products.ensures.entries)
+    c.in_ok-products.ensures.products)
     (exponents_in c.args.group.now
-    (wave_vector c.args.k.now) c.args.order c.deref-2.result.now c.args.places.items c.in_ok-exponents.exponents.items c.deref-2.ensures.value
-    c.in_ok-exponents.ensures.entries)
+    (wave_vector c.args.k.now) c.args.order c.deref.result.now c.args.places.items c.in_ok-products.exponents.items c.deref.ensures.value
+    c.in_ok-products.ensures.exponents)
     (phase_table c.in_ok-t.t) c.in_ok-t.ensures.table)
