@@ -4,3 +4,4 @@ pub mod WrittenWave
 pub mod WaveFront
 pub mod WaveFault
 pub mod WaveParts
+pub mod Readable

@@ -2,21 +2,24 @@
 --   front-more        one term more of a list of terms that are read
 --   common-none       that of no terms is 1
 --   common-more       one term more
+--   positive-term     a denominator that is not 0 is above 0
+--   common-exists     there is one
 --   common-beyond     where that of the first terms passes a limit, that of all does
-use Rattle.std.proofs.Common.{◌≡◌, sym, ◌∙◌, ap, subst, ℕ, zero, suc, Option, None, Some, IfSome, inl, inr, length-append, ◌<◌, ◌≤◌, ◌+◌, ◌*◌, List, [], ◌∷◌, ◌++◌, length, get_or, take, map, All, arith}
-use Rattle.std.specs.Int.{◌∣◌}
+use Rattle.std.proofs.Common.{◌≡◌, refl, sym, ◌∙◌, ap, subst, ℕ, zero, suc, ◌%◌, mod-lt, Option, None, Some, IfSome, inl, inr, length-append, ◌<◌, ◌≤◌, ◌+◌, ◌*◌, List, [], ◌∷◌, ◌++◌, length, get_or, take, map, All, arith}
+use Rattle.std.specs.Int.{◌∣◌, IsGcd}
 use Rattle.std.proofs.lemmas.List.{get_or-map, length-map, get_or_append_left, take_all}
 use Rattle.std.proofs.Math.Seq.{take-suc, get_or-append_seam}
 use Rattle.std.proofs.lemmas.List.Elements.{All-append, All-take}
-use Rattle.std.proofs.lemmas.Nat.Gcd.{dvd_trans, le_of_dvd}
+use Rattle.std.proofs.lemmas.Nat.Gcd.{dvd_trans, le_of_dvd, IsGcd-from_zero, IsGcd-from_mod}
 use native.Mathlib.Nat as Nat
-use Rattle.irr_number.proofs.Primes.{divisor_pos}
+use Rattle.irr_number.proofs.Primes.{divisor_pos, strong_induction}
+use Rattle.irr_rat.proofs.Multiples.{lcm_of_gcd}
 use Rattle.std.specs.Str.Parse.{digits_value}
 use Rattle.irr_numeral.proofs.ExponentOrder.{exponent_of_whole}
 use Rattle.irr_rat.specs.Lcm.{IsLcm}
 use Rattle.irr_numeral.specs.declared.terms.Written.{Written}
-use Rattle.irr_numeral.specs.TermPlaces.{written_term}
-use Rattle.irr_numeral.specs.WrittenNumber.{WrittenTerm, IsDenominator}
+use Rattle.irr_numeral.specs.TermPlaces.{HasZero, written_term}
+use Rattle.irr_numeral.specs.WrittenNumber.{WrittenTerm, IsDenominator, IsTerm}
 use Rattle.irr_numeral.specs.WrittenValue.{IsCommonDenominator, IsSmallTerm, denominator_of, denominator_value}
 
 pub front-more : (ws : List Written) (i : ℕ) (d : Written) → i < length ws
@@ -73,12 +76,15 @@ pub positive-of : (o : Option (List ℕ)) (ds : List ℕ) → o ≡ Some ds → 
 positive-of None ds e is n = absurd (cc)
 positive-of (Some es) ds e is n = subst (λ u. 0 < denominator_value u) e (positive-value es is (λ f. n (ap Some f)))
 
-pub positive-denominator : (t : WrittenTerm) → IsSmallTerm t → 0 < denominator_of t
-positive-denominator t h = of_option t.denominator h.0.denominator h.1
+pub positive-term : (t : WrittenTerm) → IsTerm t → ¬ (HasZero t) → 0 < denominator_of t
+positive-term t is n = of_option t.denominator is.denominator n
   where
     of_option : (o : Option (List ℕ)) → IfSome o IsDenominator → ¬ (o ≡ Some (48 ∷ [])) → 0 < denominator_value o
     of_option None is n = omega arith
     of_option (Some ds) is n = positive-value ds is (λ e. n (ap Some e))
+
+pub positive-denominator : (t : WrittenTerm) → IsSmallTerm t → 0 < denominator_of t
+positive-denominator t h = positive-term t h.0 h.1
 
 pub lcm-positive : (a b m : ℕ) → 0 < a → 0 < b → IsLcm a b m → 0 < m
 lcm-positive a b m p q l = divisor_pos m (a * b) (Nat.mul-pos p q) (l.2 (a * b) (Nat.dvd-mul_right a b) (Nat.dvd-mul_left b a))
@@ -90,3 +96,37 @@ pub step-of : (ws : List Written) (i : ℕ) (d : Written) (c q m : ℕ) → i < 
 step-of ws i d c q m lt h e p l = subst (λ us. IsCommonDenominator us m) (sym (front-more ws i d lt))
     (common-more (take i (map written_term ws)) (written_term (get_or ws i d)) c m h (subst (λ x. 0 < x) e p) (subst (λ x. IsLcm c x m) e l)
     (lcm-positive c q m h.positive p l))
+
+-- there is a greatest common divisor, by Euclid's algorithm, and so a least common multiple
+gcd-exists : (b a : ℕ) → (g : ℕ) × IsGcd a b g
+gcd-exists = strong_induction (λ b. (a : ℕ) → (g : ℕ) × IsGcd a b g) step
+  where
+    step : (b : ℕ) → ((m : ℕ) → m < b → (a : ℕ) → (g : ℕ) × IsGcd a m g) → (a : ℕ) → (g : ℕ) × IsGcd a b g
+    step zero ih a = (a, IsGcd-from_zero a 0 refl)
+    step (suc b) ih a = let t : (g : ℕ) × IsGcd (suc b) (a % suc b) g = ih (a % suc b) (mod-lt a (omega arith)) (suc b) in
+        (t.0, IsGcd-from_mod a (suc b) t.0 t.1)
+
+lcm-exists : (a b : ℕ) → 0 < a → (m : ℕ) × IsLcm a b m
+lcm-exists a b h = let t : (g : ℕ) × IsGcd a b g = gcd-exists b a in (_, lcm_of_gcd a b t.0 h t.1)
+
+-- each of the terms of a list, and of one with one term more at its front
+all-cons : (P : WrittenTerm → Type 0) (t : WrittenTerm) (ts : List WrittenTerm) → P t → All P ts → All P (t ∷ ts)
+all-cons P t ts p h zero d lt = p
+all-cons P t ts p h (suc k) d lt = h k d (omega arith)
+
+all-tail : (P : WrittenTerm → Type 0) (t : WrittenTerm) (ts : List WrittenTerm) → All P (t ∷ ts) → All P ts
+all-tail P t ts h k d lt = h (suc k) d (omega arith)
+
+pub common-exists : (ts : List WrittenTerm) → All (λ t. 0 < denominator_of t) ts → (c : ℕ) × IsCommonDenominator ts c
+common-exists [] p = (1, common-none)
+common-exists (t ∷ ts) p =
+    let rest : (c : ℕ) × IsCommonDenominator ts c = common-exists ts (all-tail (λ u. 0 < denominator_of u) t ts p) in
+    let more : (m : ℕ) × IsLcm rest.0 (denominator_of t) m = lcm-exists rest.0 (denominator_of t) rest.1.positive in (
+      more.0,
+      record {
+        positive = lcm-positive rest.0 (denominator_of t) more.0 rest.1.positive (p 0 t (omega arith)) more.1;
+        common = all-cons (λ u. denominator_of u ∣ more.0) t ts more.1.1
+            (λ k d lt. dvd_trans (denominator_of (get_or ts k d)) (rest.1.common k d lt) more.1.0);
+        least = λ x all. more.1.2 x (rest.1.least x (all-tail (λ u. denominator_of u ∣ x) t ts all)) (all 0 t (omega arith));
+      },
+    )

@@ -124,14 +124,14 @@ increasing-seam [] a b ys h = h 0 (omega arith)
 increasing-seam (x ∷ xs) a b ys h = increasing-seam xs a b ys (λ k lt. let next : suc k + 1 ≡ suc (k + 1) = omega arith in
     subst (λ j. get_or (xs ++ (a ∷ b ∷ ys)) k 0 < get_or (x ∷ (xs ++ (a ∷ b ∷ ys))) j 0) next (h (suc k) (omega arith)))
 
-not-unordered : (ts : List WrittenTerm) (p : ℕ) → AreIncreasing ts → IsUnorderedAt ts p → ⊥
+pub not-unordered : (ts : List WrittenTerm) (p : ℕ) → AreIncreasing ts → IsUnorderedAt ts p → ⊥
 not-unordered ts p h u =
     let less : exponent_of u.last < exponent_of u.term = increasing-seam (map exponent_of u.before) (exponent_of u.last) (exponent_of u.term)
     (map exponent_of u.after)
     (subst IsStrictlyIncreasing (map-append exponent_of u.before (u.last ∷ u.term ∷ u.after)) (subst AreIncreasing u.parts h)) in
     omega (arith, less, u.unordered)
 
-not-each : (P : WrittenTerm → Type 0) (before : List WrittenTerm) (t : WrittenTerm) (after ts : List WrittenTerm) → ts ≡ before ++ (t ∷ after) → All P ts
+pub not-each : (P : WrittenTerm → Type 0) (before : List WrittenTerm) (t : WrittenTerm) (after ts : List WrittenTerm) → ts ≡ before ++ (t ∷ after) → All P ts
     → P t
 not-each P before t after ts e h = subst P (get_or-append_seam before t after t)
     (subst (All P) e h (length before) t (omega (arith, length-append before (t ∷ after))))

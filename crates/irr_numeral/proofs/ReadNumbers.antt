@@ -3,6 +3,7 @@
 --   small-terms              their numbers are within the limits
 --   denominator-fault, size-fault     where the common denominator or the size passes its limit
 --   read-as                  the number of the scaled terms
+--   measured-as              their least common denominator and their size
 use Rattle.std.proofs.Common.{◌≡◌, refl, sym, ◌∙◌, ap, subst, ℕ, ℤ, ◌<◌, ◌≤◌, List, length, get_or, map, All, arith, inr, ◌⊎◌, ◌^◌, sum_by, unsigned_abs}
 use native.Mathlib.Nat as Nat
 use Rattle.irr_algebra.specs.Ring.{whole}
@@ -15,7 +16,7 @@ use Rattle.irr_numeral.specs.ScaledTerm.{scaled_term}
 use Rattle.irr_numeral.specs.TermPlaces.{HasZero, written_term}
 use Rattle.irr_numeral.specs.declared.terms.Written.{Written}
 use Rattle.irr_numeral.specs.WrittenNumber.{WrittenTerm, AreTerms, AreIncreasing, spelled}
-use Rattle.irr_numeral.specs.WrittenValue.{IsSmallTerm, IsCommonDenominator, AreSmall, IsReadAs, written_size}
+use Rattle.irr_numeral.specs.WrittenValue.{IsSmallTerm, IsCommonDenominator, AreSmall, IsMeasured, IsReadAs, written_size}
 use Rattle.irr_numeral.proofs.CommonDenominators.{positive-denominator}
 use Rattle.irr_numeral.proofs.ExponentOrder.{term-index}
 use Rattle.irr_numeral.proofs.ScaledTerms.{value-of, exponents-below, size-scaled}
@@ -58,6 +59,17 @@ module _ (n : ℕ) (text : List ℕ) (ts : List WrittenTerm) (h : AreRead n text
     within = h.within;
     small = record { denominator = d; common = c; denominator_within = l; size_within = s };
     value = value-of n d ts x p c (λ k t lt. positive-denominator (get_or ts k t) (small-terms k t lt)) (e ∙ ap (terms_sum n) m);
+  }
+
+  pub measured-as : (d s : ℕ) → IsCommonDenominator ts d → d ≤ DENOMINATOR_LIMIT → s ≡ written_size d ts → s ≤ COEFFICIENT_LIMIT → IsMeasured text d s
+  measured-as d s c l e m = record {
+    terms = ts;
+    are_terms = h.are_terms;
+    spells = h.spells;
+    common = c;
+    denominator_within = l;
+    size_is = e;
+    size_within = m;
   }
 
   pub scaled-exponents : (d : ℕ) (scaled : List (ℕ × ℤ)) → 0 < n → scaled ≡ map (scaled_term d) ts → All (λ t. t.0 < n) scaled

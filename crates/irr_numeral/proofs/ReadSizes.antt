@@ -1,8 +1,10 @@
 -- Denominator and size of a number that is read.
 --   integer-sum      an integer times a power of z as a sum of powers
 --   terms-sum        a sum of terms as one
+--   sum-over         over each number that the denominators divide, a number that is read is a sum of as many powers as its size
 --   read-sizes       the denominator is within the limit, and the size within that of a coefficient times the order
-use Rattle.std.proofs.Common.{◌≡◌, sym, ◌∙◌, ap, subst, ℕ, ℤ, pos, negsuc, zero, suc, ◌<◌, ◌≤◌, ◌*◌, List, [], ◌∷◌, get_or, map, arith, sum_by, unsigned_abs}
+use Rattle.std.proofs.Common.{◌≡◌, sym, ◌∙◌, ap, subst, ℕ, ℤ, pos, negsuc, zero, suc, ◌<◌, ◌≤◌, ◌*◌, List, [], ◌∷◌, get_or, map, All, arith, sum_by, unsigned_abs}
+use Rattle.std.specs.Int.{◌∣◌}
 use Rattle.std.proofs.lemmas.List.Sums.{sum_by-cons}
 use Rattle.std.proofs.lemmas.Nat.Gcd.{le_of_dvd}
 use native.Mathlib.Nat as Nat
@@ -18,7 +20,7 @@ use Rattle.irr_canonical.proofs.RootSums.{IsRootSum-zero, IsRootSum-root, IsRoot
 use Rattle.irr_cyc.specs.Terms.{terms_sum}
 use Rattle.irr_numeral.specs.declared.limits.TheConstants.{COEFFICIENT_LIMIT, DENOMINATOR_LIMIT}
 use Rattle.irr_numeral.specs.ScaledTerm.{scaled_term}
-use Rattle.irr_numeral.specs.WrittenValue.{IsReadAs, written_size}
+use Rattle.irr_numeral.specs.WrittenValue.{IsReadAs, denominator_of, written_size}
 use Rattle.irr_numeral.proofs.CommonDenominators.{positive-denominator}
 use Rattle.irr_numeral.proofs.ReadNumbers.{AreRead, small-terms}
 use Rattle.irr_numeral.proofs.ScaledTerms.{terms-scaled, size-scaled}
@@ -56,14 +58,15 @@ module _ (n : ℕ) where
     read : AreRead n text h.terms
     read = record { are_terms = h.are_terms; spells = h.spells; increasing = h.increasing; not_zero = h.not_zero; within = h.within }
 
+    -- over any number that each denominator divides
+    pub sum-over : (e : ℕ) → 0 < e → All (λ t. denominator_of t ∣ e) h.terms → IsRootSum n (written_size e h.terms) e x
+    sum-over e p v = over-sum (written_size e h.terms) e x (terms_sum n (map (scaled_term e) h.terms)) p
+        (ap ((numbers n).mul (whole (numbers n) e)) h.value
+        ∙ terms-scaled n e h.terms (λ k t lt. positive-denominator (get_or h.terms k t) (small-terms n text h.terms read k t lt)) v)
+        (subst (λ s. IsRootSum n s 1 (terms_sum n (map (scaled_term e) h.terms))) (size-scaled e h.terms) (terms-sum (map (scaled_term e) h.terms)))
+
     read-sum : IsRootSum n (written_size h.small.denominator h.terms) h.small.denominator x
-    read-sum = over-sum (written_size h.small.denominator h.terms) h.small.denominator x
-        (terms_sum n (map (scaled_term h.small.denominator) h.terms)) h.small.common.positive
-        (ap ((numbers n).mul (whole (numbers n) h.small.denominator)) h.value
-        ∙ terms-scaled n h.small.denominator h.terms (λ k t lt. positive-denominator (get_or h.terms k t) (small-terms n text h.terms read k t lt))
-        h.small.common.common)
-        (subst (λ s. IsRootSum n s 1 (terms_sum n (map (scaled_term h.small.denominator) h.terms))) (size-scaled h.small.denominator h.terms)
-        (terms-sum (map (scaled_term h.small.denominator) h.terms)))
+    read-sum = sum-over h.small.denominator h.small.common.positive h.small.common.common
 
     pub read-denominator : 0 < n → denominator n x ≤ DENOMINATOR_LIMIT
     read-denominator p =

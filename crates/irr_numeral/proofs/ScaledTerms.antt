@@ -100,8 +100,8 @@ pub size-front : (d : ℕ) (ws : List Written) (i : ℕ) (e : Written) → i < l
 size-front d ws i e lt = ap (written_size d) (front-more ws i e lt) ∙ sum_by_push (numerator_over d) (take i (map written_term ws))
     (written_term (get_or ws i e))
 
-pub size-all : (d : ℕ) (ts : List WrittenTerm) (i s limit : ℕ) → length ts ≤ i → s ≡ written_size d (take i ts) → s ≤ limit → written_size d ts ≤ limit
-size-all d ts i s limit le e h = subst (λ us. written_size d us ≤ limit) (take_all i ts le) (subst (λ x. x ≤ limit) e h)
+pub size-all : (d : ℕ) (ts : List WrittenTerm) (i s : ℕ) → length ts ≤ i → s ≡ written_size d (take i ts) → s ≡ written_size d ts
+size-all d ts i s le e = e ∙ ap (written_size d) (take_all i ts le)
 
 pub scaled-front : (d : ℕ) (ws : List Written) (i : ℕ) (e : Written) (scaled more : List (ℕ × ℤ)) (t : ℕ × ℤ) → i < length ws
     → scaled ≡ map (scaled_term d) (take i (map written_term ws)) → more ≡ scaled ++ (t ∷ []) → t ≡ scaled_term d (written_term (get_or ws i e))

@@ -6,6 +6,7 @@
 --   written_size d ts           the sum of the absolute numerators over the denominator d
 --   IsSmallTerm t               the numbers of t are above 0 and within their limits, the exponent aside
 --   AreSmall ts                 the common denominator, and the size over it, are within their limits
+--   IsMeasured text d s         the text has terms whose least common denominator is d, over which their size is s, both within their limits
 --   IsReadAs n text x           the text has terms within all limits, with increasing exponents and no denominator 0, and x is their number
 use Rattle.std.specs.Prelude.{ℕ, ℤ, pos, neg_ℤ, ◌≡◌, ◌<◌, ◌≤◌, ◌*◌, ◌/◌, Bool, if◌then◌else◌, List, [], ◌∷◌, Option, None, Some, All, sum_by}
 use Rattle.std.specs.Int.{◌∣◌}
@@ -60,6 +61,15 @@ pub record AreSmall (ts : List WrittenTerm) : Type 0 where
   pub common : IsCommonDenominator ts denominator
   pub denominator_within : denominator ≤ DENOMINATOR_LIMIT
   pub size_within : written_size denominator ts ≤ COEFFICIENT_LIMIT
+
+pub record IsMeasured (text : List ℕ) (denominator size : ℕ) : Type 0 where
+  pub terms : List WrittenTerm
+  pub are_terms : AreTerms terms
+  pub spells : spelled terms ≡ text
+  pub common : IsCommonDenominator terms denominator
+  pub denominator_within : denominator ≤ DENOMINATOR_LIMIT
+  pub size_is : size ≡ written_size denominator terms
+  pub size_within : size ≤ COEFFICIENT_LIMIT
 
 pub record IsReadAs (n : ℕ) (text : List ℕ) (x : Number n) : Type 0 where
   pub terms : List WrittenTerm

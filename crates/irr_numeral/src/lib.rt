@@ -13,8 +13,9 @@ mod terms;
 mod zero;
 
 pub use laws::{printed_numbers_are_read, texts_read_in_one_way};
+pub use limits::{COEFFICIENT_LIMIT, DENOMINATOR_LIMIT};
 pub use print::print_number;
-pub use read::{NumberError, read_number};
+pub use read::{Measured, NumberError, read_measured, read_number};
 
 #[cfg(test)]
 mod tests;

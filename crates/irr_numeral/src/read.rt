@@ -7,12 +7,12 @@ ghost use Rattle.irr_numeral.specs.declared.read.NumberError.TheVariants.{Memory
 ghost use Rattle.irr_numeral.specs.NumberLimit.{IsWithin};
 ghost use Rattle.irr_numeral.specs.TermPlaces.{ArePlaced, HasZero, written_term};
 ghost use Rattle.irr_numeral.specs.WrittenNumber.{AreIncreasing, AreTerms, spelled};
-ghost use Rattle.irr_numeral.specs.WrittenValue.{IsReadAs};
+ghost use Rattle.irr_numeral.specs.WrittenValue.{IsMeasured, IsReadAs};
 
 use crate::denominator::common_denominator;
 use crate::limits::first_beyond;
 use crate::order::first_unordered;
-use crate::scaled::{is_size_within, scaled_terms};
+use crate::scaled::{scaled_terms, size_within};
 use crate::shape::check_shape;
 use crate::terms::{Written, terms};
 use crate::zero::first_zero;
@@ -46,6 +46,17 @@ impl From<Memory> for NumberError {
     }
 }
 
+/// A number that is read, and what the coefficients of its text come to as they are written: 2/4 counts 2 over 4.
+#[derive(Drop)]
+pub struct Measured<S: Scalar> {
+    /// The number.
+    pub number: S,
+    /// The least common denominator of the coefficients.
+    pub denominator: u64,
+    /// The sum of the absolute numerators over that denominator.
+    pub size: u64,
+}
+
 /// The number of an order that a text writes: `0`, or terms as `-2/3*z^4` whose exponents increase, where the
 /// first may have none (a form of this project's own). Numerators are at most 1,073,741,824, denominators
 /// 4,096, exponents below the order. The coefficients as they are written (2/4 counts 4) have a least common
@@ -61,17 +72,40 @@ pub fn read_number<S: Scalar>(alloc: Global, order: &Order, text: &[u8]) -> Resu
     ensures size { IfOk result (λ x. let n = order.now.n in size n (S.value n x) ≤ COEFFICIENT_LIMIT * n) }
     ensures fault { IfErr result (λ e. IsFault order.now.n text.now e) }
 {
+    let measured = read_measured(alloc, order, text)?;
+    Ok(measured.number)
+}
+
+/// The number that a text writes, as `read_number` reads it, with the least common denominator of its coefficients
+/// and the size over it. The errors are those of `read_number`.
+pub fn read_measured<S: Scalar>(
+    alloc: Global,
+    order: &Order,
+    text: &[u8],
+) -> Result<Measured<S>, NumberError>
+    requires { S.admits order.now.n }
+    ensures order { IfOk result (λ m. S.order_of m.number ≡ order.now.n) }
+    ensures read { IfOk result (λ m. let n = order.now.n in IsReadAs n text.now (S.value n m.number)) }
+    ensures measured { IfOk result (λ m. IsMeasured text.now m.denominator m.size) }
+    ensures denominator { IfOk result (λ m. let n = order.now.n in denominator n (S.value n m.number) ≤ DENOMINATOR_LIMIT) }
+    ensures size { IfOk result (λ m. let n = order.now.n in size n (S.value n m.number) ≤ COEFFICIENT_LIMIT * n) }
+    ensures fault { IfErr result (λ e. IsFault order.now.n text.now e) }
+{
     let read = read_terms(alloc, order.n(), text)?;
     let terms = read.as_slice();
     let Some(den) = common_denominator(terms) else {
         return Err(NumberError::Range(text.len() as u64));
     };
-    if !is_size_within(terms, den) {
+    let Some(size) = size_within(terms, den) else {
         return Err(NumberError::Range(text.len() as u64));
-    }
+    };
     let scaled = scaled_terms(alloc, terms, order.n(), den)?;
     let number = S::from_terms(alloc, order, den, scaled.as_slice())?;
-    Ok(number)
+    Ok(Measured {
+        number,
+        denominator: den,
+        size,
+    })
 }
 
 /// The terms of a number's text of the order n, whose exponents increase, whose denominators are not 0, and

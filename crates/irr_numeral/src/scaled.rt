@@ -1,5 +1,5 @@
 // The terms of a number over one denominator.
-ghost use Rattle.std.specs.Prelude.{ℕ, ℤ, ◌≡◌, ◌<◌, ◌≤◌, ◌^◌, ◌↔◌, map, All, IfOk, IsTrue};
+ghost use Rattle.std.specs.Prelude.{ℕ, ℤ, ◌≡◌, ◌<◌, ◌≤◌, ◌^◌, map, All, IfOk, IfSome, IsNone};
 ghost use Rattle.irr_numeral.specs.declared.limits.TheConstants.{COEFFICIENT_LIMIT, DENOMINATOR_LIMIT};
 ghost use Rattle.irr_numeral.specs.NumberLimit.{IsSmallExponent};
 ghost use Rattle.irr_numeral.specs.TermPlaces.{written_term};
@@ -13,20 +13,22 @@ use crate::terms::Written;
 use irr_memory::Memory;
 use std::alloc::Global;
 
-/// Whether the sum of the absolute numerators over a denominator is within the limit.
-pub(crate) fn is_size_within(terms: &[Written], den: u64) -> bool
+/// The sum of the absolute numerators over a denominator, where it is within the limit.
+pub(crate) fn size_within(terms: &[Written], den: u64) -> Option<u64>
     requires small { All IsSmallTerm (map written_term terms.now) }
     requires den { den ≤ DENOMINATOR_LIMIT }
-    ensures { IsTrue result ↔ (written_size den (map written_term terms.now) ≤ COEFFICIENT_LIMIT) }
+    ensures size { IfSome result (λ s. s ≡ written_size den (map written_term terms.now)) }
+    ensures within { IfSome result (λ s. s ≤ COEFFICIENT_LIMIT) }
+    ensures none { IsNone result → COEFFICIENT_LIMIT < written_size den (map written_term terms.now) }
 {
     let mut size = 0;
     for term in terms {
         size += absolute_numerator(term, den);
         if size > COEFFICIENT_LIMIT {
-            return false;
+            return None;
         }
     }
-    true
+    Some(size)
 }
 
 /// The exponents, and the numerators over a denominator.

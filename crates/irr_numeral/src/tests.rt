@@ -1,6 +1,7 @@
 use crate::read::read_terms;
 use crate::{
-    NumberError, print_number, printed_numbers_are_read, read_number, texts_read_in_one_way,
+    NumberError, print_number, printed_numbers_are_read, read_measured, read_number,
+    texts_read_in_one_way,
 };
 use irr_cyc::{Dense, ORDER_LIMIT, Order, Scalar};
 use std::alloc::Global;
@@ -101,6 +102,28 @@ fn texts_that_pass_the_limits_together_are_refused(rt: HostRuntime) -> Result<()
     ] {
         let read: Result<Dense, NumberError> = read_number(rt.alloc(), &order, text.as_bytes());
         assert!(rt; read.err() == Some(error), "{text}");
+    }
+    Ok(())
+}
+
+// 1/2 and 1/3 are 3 and 2 over 6; 2/4 is not brought to lowest terms.
+#[test]
+fn coefficients_are_measured_as_they_are_written(rt: HostRuntime) -> Result<(), Fail> {
+    let order = Order::new(rt.alloc(), 12)?;
+    for (text, denominator, size) in [
+        ("1/2+1/3*z^1", 6, 5),
+        ("2/4", 4, 2),
+        ("-2/4*z^3", 4, 2),
+        ("0", 1, 0),
+        ("1073741824", 1, 1_073_741_824),
+    ] {
+        let Ok(measured) = read_measured::<Dense>(rt.alloc(), &order, text.as_bytes()) else {
+            return Err(Fail::new("no number"));
+        };
+        assert!(rt;
+            measured.denominator == denominator && measured.size == size,
+            "{text}"
+        );
     }
     Ok(())
 }

@@ -14,3 +14,17 @@ pub mod ReportEnds
 pub mod ReportPasses
 pub mod ReportSplits
 pub mod ReportFaults
+pub mod CommonScales
+pub mod Scales
+pub mod ValueReads
+pub mod ValueLines
+pub mod ReadLimits
+pub mod OneReport
+pub mod OneAnswer
+pub mod LineEnds
+pub mod ReadableReports
+pub mod Each
+pub mod StageSteps
+pub mod SomeTexts
+pub mod StagesRead
+pub mod StageLimits

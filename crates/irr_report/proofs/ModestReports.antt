@@ -40,7 +40,7 @@ use Rattle.irr_report.proofs.ReadPrinted.{All-listed, All-rows, at-listed, value
 
 -- Lists of lists.
 
-all-flat : {A : Type 0} (P : A → Type 0) (rows : List (List A)) → All (All P) rows → All P (flat_map (λ row. row) rows)
+pub all-flat : {A : Type 0} (P : A → Type 0) (rows : List (List A)) → All (All P) rows → All P (flat_map (λ row. row) rows)
 all-flat P [] h = λ k d lt. absurd (omega arith)
 all-flat P (row ∷ rows) h = All-append P row (flat_map (λ r. r) rows) (h 0 row (omega arith)) (all-flat P rows (λ k d lt. h (suc k) d (omega arith)))
 

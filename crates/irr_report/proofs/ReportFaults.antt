@@ -43,7 +43,7 @@ module _ (W P : List ℕ → Type 0) where
   some_places : (w : WrittenReport) → IsForm W P w → 0 < length w.triplets
   some_places w f = omega (arith, whole-positive w.places f.places, f.triplet_count)
 
-  leads-report : (xs : List (List ℕ)) (g : IsReport W P xs) → Leads (report_machine W P) untitled xs (closed g.written)
+  pub leads-report : (xs : List (List ℕ)) (g : IsReport W P xs) → Leads (report_machine W P) untitled xs (closed g.written)
   leads-report xs g = subst (λ ls. Leads (report_machine W P) untitled ls (closed g.written)) (sym g.are)
       (leads-then (report_machine W P) (report-leads W P g.written g.form (some_places g.written g.form)) (lead-empty W P g.written g.empty))
 

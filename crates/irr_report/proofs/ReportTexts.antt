@@ -19,7 +19,7 @@ HasNoBlank [] = Unit {0}
 HasNoBlank (c ∷ cs) = (c ≢ 32) × HasNoBlank cs
 
 -- empty, or a blank first
-abbrev IsBehindWord : List ℕ → Type 0
+abbrev pub IsBehindWord : List ℕ → Type 0
 IsBehindWord [] = Unit {0}
 IsBehindWord (c ∷ cs) = c ≡ 32
 
@@ -37,7 +37,7 @@ cancelled (c ∷ front) s t e = cancelled front s t (tails c c (front ++ s) (fro
 pub word-cancelled : (front s t : List ℕ) → front ++ next_word s ≡ front ++ next_word t → s ≡ t
 word-cancelled front s t e = tails 32 32 s t (cancelled front (next_word s) (next_word t) e)
 
-word-unique : (x y s t : List ℕ) → HasNoBlank x → HasNoBlank y → IsBehindWord s → IsBehindWord t → x ++ s ≡ y ++ t → (x ≡ y) × (s ≡ t)
+pub word-unique : (x y s t : List ℕ) → HasNoBlank x → HasNoBlank y → IsBehindWord s → IsBehindWord t → x ++ s ≡ y ++ t → (x ≡ y) × (s ≡ t)
 word-unique [] [] s t h k b d e = (refl, e)
 word-unique [] (c ∷ y) [] t h k b d e = absurd (cc)
 word-unique [] (c ∷ y) (a ∷ s) t h k b d e = absurd (k.0 (sym (heads a c s (y ++ t) e) ∙ b))

@@ -8,4 +8,12 @@ pub mod ReportLimits
 pub mod Machine
 pub mod ReportSteps
 pub mod ReadReport
+pub mod Limits
+pub mod ReportFault
+pub mod LimitedReport
+pub mod ReadableParts
 pub mod ModestReport
+pub mod ValueTexts
+pub mod Digits
+pub mod StageValues
+pub mod ReportStages

@@ -2,7 +2,10 @@ ghost use Rattle.std.specs.Prelude.{◌≡◌, ◌<◌, All, IsTrue, ◌↔◌, 
 ghost use Rattle.irr_mat.specs.Entries.{first_order};
 ghost use Rattle.irr_report.specs.Content.{FitsTogether, HasPlaces};
 
-use crate::{Memory, RepText, Report, print_report, printed_reports_have_lines};
+use crate::values::{Scale, ValuesError, read_values};
+use crate::{
+    Memory, RepText, Report, ReportError, print_report, printed_reports_have_lines, read_report,
+};
 use irr_cyc::{Dense, Order, Scalar};
 use irr_kvec::Wave;
 use irr_mat::Mat;
@@ -196,4 +199,154 @@ fn screw_axis(rt: HostRuntime) -> Result<(), Fail> {
         rep S2 dim 1\nchar 1 -1*z^1\nmat 1 1\nmat 2 -1*z^1\nend\n";
     assert!(rt; text.as_slice() == expected.as_bytes());
     Ok(())
+}
+
+// Whether a line of so many values has this fault, or none.
+fn has_fault(
+    alloc: Global,
+    order: &Order,
+    count: usize,
+    text: &str,
+    scale: &mut Scale,
+    fault: Option<ValuesError>,
+) -> bool {
+    let read: Result<Vec<Dense>, ValuesError> = read_values(
+        alloc,
+        order,
+        count,
+        text.as_bytes(),
+        scale,
+    );
+    read.err() == fault
+}
+
+// Of order 12, z^12 passes the limit on exponents; 4,096 and 4,095 have no common divisor; over 2, 1,073,741,824 is
+// 2,147,483,648.
+#[test]
+fn values_are_read_within_the_limits_of_all(rt: HostRuntime) -> Result<(), Fail> {
+    let order = Order::new(rt.alloc(), 12)?;
+    for (count, text, fault) in [
+        (2, " 1 -1/2*z^3", None),
+        (0, "", None),
+        (1, "", Some(ValuesError::Line)),
+        (1, "1", Some(ValuesError::Line)),
+        (1, " 1 ", Some(ValuesError::Line)),
+        (2, " 1  2", Some(ValuesError::Line)),
+        (1, " 1/0", Some(ValuesError::Line)),
+        (2, " 1*z^12 x", Some(ValuesError::Line)),
+        (2, " 1*z^12 1", Some(ValuesError::Range)),
+        (2, " 1/4096 1/4095", Some(ValuesError::Range)),
+        (2, " 1073741824 1/2", Some(ValuesError::Range)),
+        (2, " 536870912 1/2", None),
+    ] {
+        let mut scale = Scale::new();
+        assert!(rt;
+            has_fault(rt.alloc(), &order, count, text, &mut scale, fault),
+            "{text}"
+        );
+    }
+    let mut scale = Scale::new();
+    assert!(rt; has_fault(rt.alloc(), &order, 1, " 1073741824", &mut scale, None));
+    assert!(rt;
+        has_fault(
+            rt.alloc(),
+            &order,
+            1,
+            " 1/2",
+            &mut scale,
+            Some(ValuesError::Range)
+        )
+    );
+    Ok(())
+}
+
+// Whether a text is a report with these numbers of operations and representations, of this order.
+fn is_read(alloc: Global, text: &str, order: u32, ops: usize, reps: usize) -> bool {
+    let read: Result<Report<Dense>, ReportError> = read_report(alloc, text.as_bytes());
+    match read {
+        Ok(report) => report.order == order && report.ops.len() == ops && report.reps.len() == reps,
+        Err(_) => false,
+    }
+}
+
+// Whether a text has this error.
+fn is_refused(alloc: Global, text: &str, error: ReportError) -> bool {
+    let read: Result<Report<Dense>, ReportError> = read_report(alloc, text.as_bytes());
+    read.err() == Some(error)
+}
+
+const SCREW: &str = "report 1\nwave 0,1/2,0\norder 4\nops 2\nop 1 x,y,z\nop 2 -x,y+1/2,-z\nreps 2\n\
+    rep S1 dim 1\nchar 1 1*z^1\nmat 1 1\nmat 2 1*z^1\n\
+    rep S2 dim 1\nchar 1 -1*z^1\nmat 1 1\nmat 2 -1*z^1\nend\n";
+
+// Whether a text is a report that prints as the same text.
+fn is_printed_again(alloc: Global, text: &str) -> Result<bool, Fail> {
+    let read: Result<Report<Dense>, ReportError> = read_report(alloc, text.as_bytes());
+    match read {
+        Ok(report) => {
+            let printed = print_report(alloc, &report)?;
+            Ok(printed.as_slice() == text.as_bytes())
+        }
+        Err(_) => Ok(false),
+    }
+}
+
+const EMPTY: &str =
+    "report 1\nwave 0,0,0\norder 1\nops 1\nop 1 x,y,z\nreps 1\nrep S1 dim 1\nchar 1\nmat 1 1\nend\n";
+
+// No sum of squares of dimensions is asked for in a report.
+const THREEFOLD: &str =
+    "report 1\nwave 0,0,0\norder 3\nops 3\nop 1 x,y,z\nop 2 -x+y,-x,z\nop 3 -y,x-y,z\nreps 2\n\
+    rep S1 dim 1\nchar 1 1 1\nmat 1 1\nmat 2 1\nmat 3 1\n\
+    rep S2 dim 2\nchar 2 -1 -1\nmat 1 1 0 0 1\nmat 2 -1 1 -1 0\nmat 3 0 -1 1 -1\nend\n";
+
+#[test]
+fn reports_are_read_and_printed_again(rt: HostRuntime) -> Result<(), Fail> {
+    assert!(rt; is_read(rt.alloc(), SCREW, 4, 2, 2));
+    for text in [EMPTY, SCREW, THREEFOLD] {
+        assert!(rt; is_printed_again(rt.alloc(), text)?, "{text}");
+    }
+    Ok(())
+}
+
+#[test]
+fn ends_of_lines_may_differ(rt: HostRuntime) {
+    let text = "report 1\r\nwave 0,0,0\r\norder 1\nops 1\nop 1 x,y,z\nreps 0\nend\n\n\r\n";
+    assert!(rt; is_read(rt.alloc(), text, 1, 1, 0));
+    assert!(rt;
+        is_read(
+            rt.alloc(),
+            "report 1\nwave 0,0,0\norder 1\nops 1\nop 1 x,y,z\nreps 0\nend",
+            1,
+            1,
+            0
+        )
+    );
+}
+
+#[test]
+fn a_report_that_is_cut_off_lacks_a_line(rt: HostRuntime) {
+    assert!(rt; is_refused(rt.alloc(), "report 1\nwave 0,0,0\n", ReportError::Line(3)));
+    assert!(rt; is_refused(rt.alloc(), "", ReportError::Line(1)));
+}
+
+#[test]
+fn the_first_line_past_a_limit_is_told(rt: HostRuntime) {
+    assert!(rt;
+        is_refused(
+            rt.alloc(),
+            "report 1\nwave 0,0,0\norder 12001\nops 0\n",
+            ReportError::Range(3)
+        )
+    );
+    assert!(rt;
+        is_refused(
+            rt.alloc(),
+            "report 1\nwave 0,0,0\norder 1\nops 49\n",
+            ReportError::Range(4)
+        )
+    );
+    let text =
+        "report 1\nwave 0,0,0\norder 2\nops 1\nop 1 x,y,z\nreps 1\nrep S1 dim 1\nchar 1073741825*z^1\n";
+    assert!(rt; is_refused(rt.alloc(), text, ReportError::Range(8)));
 }

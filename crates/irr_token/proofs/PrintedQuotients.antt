@@ -78,7 +78,7 @@ number-spelled : (p n : ℕ) (ts : List Token) (rest : List ℕ) → n < 2 ^ 64 
     → AreSpelled p (number (record { place = p; digits = decimal n }) ∷ ts) (decimal n ++ rest)
 number-spelled p n ts rest h sp = ((decimal_is_IsNumeral n h).0, refl, record { blanks = []; rest = rest; are_blanks = tt; joins = refl; is_rest = sp })
 
-pub printed-spelled : (at : ℕ) (a : ℤ) (b : ℕ) (ts : List Token) (rest : List ℕ) → unsigned_abs a ≤ 100000 → b ≤ 100000 → AreSpelled (printed_end at a b) ts rest
+pub printed-spelled : (at : ℕ) (a : ℤ) (b : ℕ) (ts : List Token) (rest : List ℕ) → unsigned_abs a < 2 ^ 64 → b ≤ 100000 → AreSpelled (printed_end at a b) ts rest
     → AreSpelled at (quotient_tokens (printed_quotient at a b) ++ ts) (fraction_text a b ++ rest)
 unfolding printed_quotient printed_end
 printed-spelled at (pos n) b ts rest ha hb sp = subst (AreSpelled at (quotient_tokens (printed_quotient at (pos n) b) ++ ts))
@@ -106,7 +106,7 @@ unfolding over_of is_one
 over-value true p b e h = let one : b ≡ 1 = grind (arith, nat_tests) in sym one
 over-value false p b e h = number-value b h
 
-pub printed-value : (at : ℕ) (a : ℤ) (b : ℕ) → unsigned_abs a ≤ 100000 → b ≤ 100000 → quotient_value (printed_quotient at a b) ≡ ratio a b
+pub printed-value : (at : ℕ) (a : ℤ) (b : ℕ) → unsigned_abs a < 2 ^ 64 → b ≤ 100000 → quotient_value (printed_quotient at a b) ≡ ratio a b
 unfolding printed_quotient
 printed-value at (pos n) b ha hb = ap₂ (λ (m d : ℕ). ratio (pos m) d) (number-value n (omega arith)) (over-value (is_one b) (at + length (decimal n) + 0) b refl (omega arith))
 printed-value at (negsuc n) b ha hb = ap₂ (λ (m d : ℕ). ratio (neg_of m) d) (number-value (suc n) (omega arith)) (over-value (is_one b) (at + 1 + 0 + length (decimal (suc n)) + 0) b refl (omega arith))
@@ -143,10 +143,10 @@ unfolding over_of
 over-within true p b h = tt
 over-within false p b h = (subst (λ n. n ≤ 100000) (sym (number-value b (omega arith))) h, tt)
 
-pub printed-within : (at : ℕ) (a : ℤ) (b : ℕ) → unsigned_abs a ≤ 100000 → b ≤ 100000 → AreWithin (limited 100000 (printed_quotient at a b))
+pub printed-within : (m at : ℕ) (a : ℤ) (b : ℕ) → m < 2 ^ 64 → unsigned_abs a ≤ m → b ≤ 100000 → AreWithin (limited m (printed_quotient at a b))
 unfolding printed_quotient
-printed-within at (pos n) b ha hb = (subst (λ m. m ≤ 100000) (sym (number-value n (omega arith))) ha, over-within (is_one b) (at + length (decimal n) + 0) b hb)
-printed-within at (negsuc n) b ha hb = (subst (λ m. m ≤ 100000) (sym (number-value (suc n) (omega arith))) ha, over-within (is_one b) (at + 1 + 0 + length (decimal (suc n)) + 0) b hb)
+printed-within m at (pos n) b top ha hb = (subst (λ k. k ≤ m) (sym (number-value n (omega arith))) ha, over-within (is_one b) (at + length (decimal n) + 0) b hb)
+printed-within m at (negsuc n) b top ha hb = (subst (λ k. k ≤ m) (sym (number-value (suc n) (omega arith))) ha, over-within (is_one b) (at + 1 + 0 + length (decimal (suc n)) + 0) b hb)
 
 -- No blanks.
 
@@ -176,10 +176,10 @@ unfolding over_text NoBlanks
 over-no_blanks true b h = tt
 over-no_blanks false b h = mark-no_blanks 47 (decimal b) refl (decimal-no_blanks b h)
 
-pub fraction-no_blanks : (a : ℤ) (b : ℕ) → unsigned_abs a ≤ 100000 → b ≤ 100000 → NoBlanks (fraction_text a b)
+pub fraction-no_blanks : (a : ℤ) (b : ℕ) → unsigned_abs a < 2 ^ 64 → b ≤ 100000 → NoBlanks (fraction_text a b)
 fraction-no_blanks a b ha hb = subst NoBlanks (sym (fraction-parts a b)) (no_blanks-append (signed_decimal a) (over_text (is_one b) b) (signed a ha) (over-no_blanks (is_one b) b (omega arith)))
   where
-    signed : (k : ℤ) → unsigned_abs k ≤ 100000 → NoBlanks (signed_decimal k)
+    signed : (k : ℤ) → unsigned_abs k < 2 ^ 64 → NoBlanks (signed_decimal k)
     signed (pos n) h = decimal-no_blanks n (omega arith)
     signed (negsuc n) h = mark-no_blanks 45 (decimal (suc n)) refl (decimal-no_blanks (suc n) (omega arith))
 

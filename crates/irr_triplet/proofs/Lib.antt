@@ -17,3 +17,4 @@ pub mod TripletValues
 pub mod PrintedTriplets
 pub mod OneTriplet
 pub mod OneFault
+pub mod VisibleMarks

@@ -98,7 +98,7 @@ body-spelled at (letter negative l (suc (suc n))) ts rest h sp = (
   },
 )
 body-spelled at (fraction negative a b) ts rest h sp = subst (λ s. AreSpelled at ((sign_tokens s ++ body_tokens (body_at at (fraction negative a b))) ++ ts) (fraction_text (pos a) b ++ rest))
-    (printed-unsigned at a b) (printed-spelled at (pos a) b ts rest h.0 h.2 sp)
+    (printed-unsigned at a b) (printed-spelled at (pos a) b ts rest (omega (arith, h.0)) h.2 sp)
 
 -- terms with their signs
 
@@ -229,7 +229,7 @@ body-within : (at : ℕ) (p : Piece) → IsPiece p → AreWithin (body_numbers (
 body-within at (letter negative l zero) h = tt
 body-within at (letter negative l (suc zero)) h = tt
 body-within at (letter negative l (suc (suc n))) h = (subst (λ m. m ≤ 9) (sym (number-value (suc (suc n)) (omega (arith, h.1)))) h.1, tt)
-body-within at (fraction negative a b) h = printed-within at (pos a) b h.0 h.2
+body-within at (fraction negative a b) h = printed-within 100000 at (pos a) b (omega arith) h.0 h.2
 
 of-zero : (ts : List Term) (ps : List Piece) → AreOf ts ps → ArePieces ps → AreNotZero (denominators ts)
 of-zero [] [] o h = tt
