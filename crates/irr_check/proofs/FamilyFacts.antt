@@ -29,7 +29,7 @@ use Rattle.irr_char.proofs.ScalarProducts.{small_row}
 use Rattle.irr_report.specs.Content.{number_at}
 use Rattle.irr_report.specs.declared.report.RepText.{RepText}
 use Rattle.irr_check.specs.Faults.{HasTrace, IsSmall, own}
-use Rattle.irr_check.specs.Limits.{IsChecked}
+use Rattle.irr_report.specs.Limits.{IsChecked}
 
 pub dimension_unique : (F : Field) {T : FactorSystem F.ring} {a b : ℕ} (A : Representation T a) (B : Representation T b) (m n : ℕ)
     → HasDimension A.at B.at m → HasDimension A.at B.at n → m ≡ n

@@ -1,6 +1,12 @@
+mod Enumerations
+mod OneTable
+pub mod Along
 mod TrialOrder
 mod Readings
 mod FirstTrials
+mod TrialTurns
+mod OnReports
+pub mod OneVerdict
 mod ListedFamilies
 mod RowDifferences
 mod OperationLists

@@ -21,7 +21,7 @@ use Rattle.irr_rep.specs.Family.{matrix_at}
 use Rattle.irr_rep.proofs.Families.{matrix_at-item}
 use Rattle.irr_rep.proofs.SingleEntries.{SinglesSoFar, item}
 use Rattle.irr_char.specs.Rows.{row_of}
-use Rattle.irr_check.specs.Limits.{IsLimitedRow}
+use Rattle.irr_report.specs.Limits.{IsLimitedRow}
 
 module _ {S : Type 0} {G : Ghosts S} (n : ℕ) where
   pub limited_singles : (h : ℕ) (mats : List (Mat S G)) → SinglesSoFar n h mats → IsLimited n h 1 1 mats

@@ -13,7 +13,7 @@ use Rattle.irr_rep.specs.Family.{matrix_at}
 use Rattle.irr_char.specs.Characters.{AreCharacters}
 use Rattle.irr_report.specs.declared.report.RepText.{RepText}
 use Rattle.irr_check.specs.Faults.{IsSound}
-use Rattle.irr_check.specs.Limits.{IsChecked}
+use Rattle.irr_report.specs.Limits.{IsChecked}
 use Rattle.irr_check.specs.Pairs.{AreApart, AreApartAt, AreApartBelow}
 use Rattle.irr_check.proofs.FamilyFacts.{characters_of, dimension_unique, family_of}
 use Rattle.irr_check.proofs.RowDifferences.{before_or_at}

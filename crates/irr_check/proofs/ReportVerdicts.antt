@@ -1,10 +1,11 @@
 -- Verdicts on reports of the program.
 --   order_verdict            the order is another
+--   order_within             the order of the wave vector is within a limit that the table's is
 --   operations_verdict       the operations differ
 --   families_verdict_of      they are the same
 --   checked_at               the representations are within the limits, at the order and the number of places of the table
 --   sizes_of                 dimensions are positive
-use Rattle.std.proofs.Common.{◌≡◌, sym, ◌∙◌, ap, subst, inl, inr, ℕ, ◌<◌, ◌+◌, List, [], ◌∷◌, length, get_or, All, arith}
+use Rattle.std.proofs.Common.{◌≡◌, sym, ◌∙◌, ap, subst, inl, inr, ℕ, ◌<◌, ◌≤◌, ◌+◌, List, [], ◌∷◌, length, get_or, All, arith}
 use Rattle.std.specs.Prelude.{Some, None}
 use mathlib.Core.Path.{fun_ext}
 use Rattle.std.proofs.lemmas.Bool.{cases_lt}
@@ -31,13 +32,14 @@ use Rattle.irr_check.specs.declared.verdict.Verdict.{Verdict}
 use Rattle.irr_check.specs.declared.verdict.Verdict.TheVariants.{No}
 use Rattle.irr_check.specs.declared.verdict.Clause.TheVariants.{Order, Ops}
 use Rattle.irr_check.specs.Families.{families_report}
-use Rattle.irr_check.specs.Limits.{IsChecked, IsWithinLimits}
+use Rattle.irr_report.specs.Limits.{IsChecked, IsWithinLimits}
 use Rattle.irr_check.specs.Listed.{families_of}
 use Rattle.irr_check.specs.Operations.{AreSameAt, IsFirstOther}
 use Rattle.irr_check.specs.Trials.{IsFirstFailed}
 use Rattle.irr_check.specs.Trials.Reading.{dimensions}
 use Rattle.irr_check.specs.Verdict.{IsFamiliesVerdict, IsSameAt, IsVerdict}
 use Rattle.irr_check.specs.Verdict.IsVerdict.{of_families, other_operations, other_order}
+use Rattle.irr_check.proofs.OneTable.{order_unique}
 
 -- an item of a list that has one
 some_item : {A : Type 0} (xs : List A) → 0 < length xs → A
@@ -57,6 +59,10 @@ module _ {S : Type 0} {G : Ghosts S} (group : Group) (r : Report S G) (limits : 
 
   pub order_verdict : ¬ (r.order ≡ T.order) → Says (No Order 0 T.order 0)
   order_verdict other = other_order (little.table default).is_order other
+
+  pub order_within : (limit : ℕ) → T.order ≤ limit → (n : ℕ) → IsOrder (stands_for group) (wave_vector r.wave) n → n ≤ limit
+  order_within limit within n order = subst (λ x. x ≤ limit)
+      (order_unique (stands_for group) (wave_vector r.wave) T.order n (little.table default).is_order order) within
 
   -- an operation of the report
   given : (j : Fin (length r.ops.items)) (e : Op) → get_or (operations_of r) (to_nat j) identity ≡ operation (get_or r.ops.items (to_nat j) e)

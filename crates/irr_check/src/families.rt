@@ -3,7 +3,7 @@ ghost use Rattle.std.specs.Prelude.{ℕ, ◌≡◌, ◌<◌, ◌≤◌, All, len
 ghost use Rattle.irr_cyc.specs.declared.orders.TheConstants.{ORDER_LIMIT};
 ghost use Rattle.irr_rep.specs.Twisted.{phase_table, place_count};
 ghost use Rattle.irr_check.specs.Faults.{IsFirstFault, IsSound};
-ghost use Rattle.irr_check.specs.Limits.{IsChecked};
+ghost use Rattle.irr_report.specs.Limits.{IsChecked};
 ghost use Rattle.irr_check.specs.Listed.{IsFirstFaulty, IsSmallFault, families_of, fault_verdict};
 ghost use Rattle.irr_check.specs.declared.fault.Fault.TheVariants.{Defect as FamilyDefect};
 ghost use Rattle.irr_check.specs.Trials.Reading.{dimensions};

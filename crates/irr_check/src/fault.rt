@@ -6,7 +6,7 @@ ghost use Rattle.irr_number.specs.Number.{Number};
 ghost use Rattle.irr_rep.specs.Defects.{IsFirstFailure};
 ghost use Rattle.irr_rep.specs.Twisted.{phase_table, place_count};
 ghost use Rattle.irr_char.specs.Characters.{IsRowOf, IsSmallRow};
-ghost use Rattle.irr_check.specs.Limits.{IsChecked, IsLimitedRow};
+ghost use Rattle.irr_report.specs.Limits.{IsChecked, IsLimitedRow};
 ghost use Rattle.irr_check.specs.Faults.{IsFirstFault};
 
 use irr_char::{average, character};

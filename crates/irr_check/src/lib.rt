@@ -4,12 +4,14 @@
 
 mod families;
 mod fault;
+mod laws;
 mod operations;
 mod pairs;
 mod report;
 mod verdict;
 
 pub use irr_memory::Memory;
+pub use laws::{a_yes_is_complete, one_verdict_on_a_report, verdicts_as_they_are_meant};
 pub use report::check;
 pub use verdict::{CheckError, Clause, Verdict};
 

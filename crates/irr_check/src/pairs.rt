@@ -3,7 +3,7 @@ ghost use Rattle.std.specs.Prelude.{ℕ, ◌≡◌, ◌<◌, ◌≤◌, ◌*◌,
 ghost use Rattle.irr_cyc.specs.declared.orders.TheConstants.{ORDER_LIMIT};
 ghost use Rattle.irr_rep.specs.Twisted.{phase_table, place_count};
 ghost use Rattle.irr_check.specs.Faults.{IsSound};
-ghost use Rattle.irr_check.specs.Limits.{IsChecked};
+ghost use Rattle.irr_report.specs.Limits.{IsChecked};
 ghost use Rattle.irr_check.specs.Pairs.{AreApartBelow, IsFirstBehind, IsFirstPair};
 
 use irr_char::average;

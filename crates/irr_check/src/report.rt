@@ -1,5 +1,6 @@
 // The verdict on a report.
-ghost use Rattle.std.specs.Prelude.{◌≡◌, ◌≤◌, IfOk, IfErr};
+ghost use Rattle.std.specs.Prelude.{ℕ, ◌≡◌, ◌≤◌, IfOk, IfErr};
+ghost use Rattle.irr_space.specs.Reciprocal.{IsOrder};
 ghost use Rattle.irr_cyc.specs.declared.orders.TheConstants.{ORDER_LIMIT};
 ghost use Rattle.irr_rep.specs.Twisted.{phase_table, operation_places};
 ghost use Rattle.irr_seitz.specs.PhaseMeaning.{sign_of};
@@ -7,7 +8,8 @@ ghost use Rattle.irr_kvec.specs.WaveMeaning.{wave_vector};
 ghost use Rattle.irr_close.specs.StandsFor.{stands_for};
 ghost use Rattle.irr_little.specs.Table.{IsLittleTable};
 ghost use Rattle.irr_report.specs.Content.{content_of};
-ghost use Rattle.irr_check.specs.Limits.{IsWithinLimits, IsCheckRefusal};
+ghost use Rattle.irr_check.specs.Limits.{IsCheckRefusal};
+ghost use Rattle.irr_report.specs.Limits.{IsWithinLimits};
 ghost use Rattle.irr_check.specs.Trials.Reading.{dimensions, meaning};
 ghost use Rattle.irr_check.specs.Verdict.{HaveSteps, IsCompleteReport, IsVerdict};
 ghost use Rattle.irr_check.specs.declared.verdict.Verdict.TheVariants.{Yes};
@@ -39,6 +41,7 @@ pub fn check<S: Scalar>(
     ensures verdict { HaveSteps (sign_of group.now.phase) (stands_for group.now) (wave_vector report.now.wave)
         → IfOk result (λ v. IsVerdict meaning (sign_of group.now.phase) (stands_for group.now) (content_of report.now) v) }
     ensures yes { IfOk result (λ v. v ≡ Yes → IsCompleteReport (sign_of group.now.phase) (stands_for group.now) (content_of report.now)) }
+    ensures accepted { IfOk result (λ v. (n : ℕ) → IsOrder (stands_for group.now) (wave_vector report.now.wave) n → n ≤ ORDER_LIMIT) }
     ensures refused { IfErr result (IsCheckRefusal group.now (wave_vector report.now.wave)) }
 {
     match little(alloc, group, &report.wave) {

@@ -1,14 +1,13 @@
 ghost use Rattle.std.specs.Prelude.{ℕ, ◌≡◌, ◌<◌, ◌≤◌, ◌^◌, All, IfOk, IsTrue, length, unsigned_abs};
-ghost use Rattle.irr_algebra.specs.Fin.{Fin};
 ghost use Rattle.irr_mat.specs.Entries.{first_order, matrix_of};
 ghost use Rattle.irr_mat.specs.Size.{IsWithin};
-ghost use Rattle.irr_rational.specs.Ratio.{entry};
+ghost use Rattle.irr_kvec.specs.Centrings.{IsWithinLimits};
 ghost use Rattle.irr_rep.specs.Defects.{IsLimited};
 ghost use Rattle.irr_seitz.specs.Rotation.{IsWithin as HasSmallEntries, determinant, rotation_of};
 ghost use Rattle.irr_seitz.specs.OperationMeaning.{operation};
 ghost use Rattle.irr_close.specs.Rows.{IsSmallRow};
 ghost use Rattle.irr_close.specs.Closing.{IsGenerator};
-ghost use Rattle.irr_check.specs.Limits.{IsChecked, IsLimitedRow};
+ghost use Rattle.irr_report.specs.Limits.{IsChecked, IsLimitedRow};
 
 use crate::{Clause, Memory, Verdict, check};
 use irr_close::{Group, close};
@@ -108,26 +107,25 @@ fn are_unimodular(ops: &[Op]) -> bool
     ops.iter().all(|op| is_unimodular(op))
 }
 
-fn is_short(number: i64) -> bool
-    ensures { IsTrue result → unsigned_abs number ≤ 400000 }
+fn is_within_limits(wave: &Wave) -> bool
+    ensures { IsTrue result → IsWithinLimits wave.now }
 {
-    number.unsigned_abs() <= 400_000
+    if wave.den > 10_000_000 {
+        return false;
+    }
+    if !is_small_numerator(wave.num[0]) {
+        return false;
+    }
+    if !is_small_numerator(wave.num[1]) {
+        return false;
+    }
+    is_small_numerator(wave.num[2])
 }
 
-fn is_short_wave(wave: &Wave) -> bool
-    ensures numerators { IsTrue result → (i : Fin 3) → unsigned_abs (entry wave.now.num i) ≤ 400000 }
-    ensures denominator { IsTrue result → wave.now.den ≤ 100000 }
+fn is_small_numerator(number: i64) -> bool
+    ensures { IsTrue result → unsigned_abs number ≤ 100000000000000 }
 {
-    if wave.den > 100_000 {
-        return false;
-    }
-    if !is_short(wave.num[0]) {
-        return false;
-    }
-    if !is_short(wave.num[1]) {
-        return false;
-    }
-    is_short(wave.num[2])
+    number.unsigned_abs() <= 100_000_000_000_000
 }
 
 // The group of one operation; none where it is refused.
@@ -228,7 +226,7 @@ fn verdict_on<S: Scalar>(
         ops,
         reps,
     };
-    if !is_short_wave(&report.wave) {
+    if !is_within_limits(&report.wave) {
         return Ok(None);
     }
     match check(alloc, &group, &report) {

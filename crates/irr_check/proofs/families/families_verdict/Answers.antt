@@ -5,7 +5,7 @@ use Rattle.irr_cyc.specs.declared.scalars.Scalar.{Ghosts}
 use Rattle.irr_report.specs.declared.report.RepText.{RepText}
 use Rattle.irr_rep.specs.Twisted.{phase_table, place_count}
 use Rattle.irr_check.specs.declared.pairs.Pair.{Pair}
-use Rattle.irr_check.specs.Limits.{IsChecked}
+use Rattle.irr_report.specs.Limits.{IsChecked}
 use Rattle.irr_check.specs.Listed.{IsFirstFaulty, families_of}
 use Rattle.irr_check.specs.Pairs.{IsFirstBehind, IsFirstPair}
 use Rattle.irr_check.specs.Trials.Reading.{dimensions}

@@ -7,7 +7,7 @@ use Rattle.irr_report.specs.declared.report.RepText.{RepText}
 use Rattle.irr_rep.specs.Twisted.{phase_table, place_count}
 use Rattle.irr_check.specs.declared.fault.Fault.{Fault}
 use Rattle.irr_check.specs.Faults.{IsFirstFault, IsSound}
-use Rattle.irr_check.specs.Limits.{IsChecked}
+use Rattle.irr_report.specs.Limits.{IsChecked}
 use Rattle.irr_check.specs.Listed.{IsFirstFaulty}
 use Rattle.irr_check.proofs.RowDifferences.{before_or_at}
 use Rattle.irr_check.proofs.families.first_faulty.Goals as goal

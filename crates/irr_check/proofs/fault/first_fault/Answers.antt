@@ -14,7 +14,7 @@ use Rattle.irr_cyc.specs.declared.scalars.Scalar.{Ghosts}
 use Rattle.irr_report.specs.declared.report.RepText.{RepText}
 use Rattle.irr_space.specs.PhaseTable.{PhaseTable}
 use Rattle.irr_check.specs.Faults.{HasTrace, IsFirstFault, IsSmall, own}
-use Rattle.irr_check.specs.Limits.{IsLimitedRow}
+use Rattle.irr_report.specs.Limits.{IsLimitedRow}
 use Rattle.irr_check.specs.declared.fault.Fault.TheVariants.{Defect as not_small}
 use Rattle.irr_check.proofs.FamilyFacts.{characters_of, checkable, dimension_unique, family_of, own_row, own_shape, small_traces, traces_fit}
 use Rattle.irr_check.proofs.fault.first_fault.Goals as goal

@@ -8,7 +8,7 @@ use Rattle.irr_check.specs.declared.verdict.Verdict.TheVariants.{No}
 use Rattle.irr_check.specs.declared.verdict.Clause.TheVariants.{Order}
 use Rattle.irr_check.specs.Operations.{IsFirstOther}
 use Rattle.irr_check.specs.Trials.Reading.{dimensions}
-use Rattle.irr_check.specs.Limits.{IsChecked}
+use Rattle.irr_report.specs.Limits.{IsChecked}
 use Rattle.irr_check.specs.Listed.{families_of}
 use Rattle.irr_check.specs.Verdict.{IsFamiliesVerdict, IsVerdict}
 use Rattle.irr_check.proofs.ReportVerdicts.{checked_at, families_verdict_of, operations_verdict, order_verdict}

@@ -1,6 +1,6 @@
 -- A representation of one row is within the limits.
 use Rattle.std.proofs.Common.{subst, length, ◌≡◌}
-use Rattle.irr_check.specs.Limits.{IsLimitedRow}
+use Rattle.irr_report.specs.Limits.{IsLimitedRow}
 use Rattle.irr_check.proofs.tests.powers.Goals as goal
 
 pub returns : goal.returns

@@ -1,6 +1,6 @@
 -- Two representations are within the limits.
 use Rattle.std.proofs.Common.{◌≡◌, sym, ap, subst, ◌≤◌, length, All, arith}
-use Rattle.irr_check.specs.Limits.{IsChecked}
+use Rattle.irr_report.specs.Limits.{IsChecked}
 use Rattle.irr_check.proofs.MadeReports.{all_two, two_pushed}
 use Rattle.irr_check.proofs.tests.verdict_on_two.Goals as goal
 
