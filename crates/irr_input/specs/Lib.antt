@@ -2,3 +2,4 @@ pub mod Command
 pub mod Forms
 pub mod InputLines
 pub mod LineReading
+pub mod SectionReading

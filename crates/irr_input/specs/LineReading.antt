@@ -7,7 +7,7 @@ use Rattle.irr_triplet.specs.Readable.{IsReadable}
 use Rattle.irr_triplet.specs.TripletFault.{IsTextOf}
 use Rattle.irr_input.specs.declared.input.GenLine.{GenLine}
 use Rattle.irr_input.specs.declared.input.InputError.{InputError}
-use Rattle.irr_input.specs.declared.input.InputError.TheVariants.{Bad, Memory}
+use Rattle.irr_input.specs.declared.input.InputError.TheVariants.{Bad, Memory, ReportRange}
 use Rattle.irr_input.specs.InputLines.{IsSkipped, HasFault}
 
 pub data IsLineRead (n : ℕ) (line : List ℕ) (old new : List GenLine) : Type 0 where
@@ -16,4 +16,5 @@ pub data IsLineRead (n : ℕ) (line : List ℕ) (old new : List GenLine) : Type 
 
 abbrev pub IsLineFault : ℕ → List ℕ → InputError → Type 0
 IsLineFault n line (Bad m reason) = (m ≡ n) × (¬ (IsSkipped line)) × HasFault line reason
+IsLineFault n line (ReportRange m) = ⊥
 IsLineFault n line Memory = Unit {0}

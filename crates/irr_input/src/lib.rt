@@ -4,6 +4,7 @@
 mod arguments;
 mod input;
 mod laws;
+mod section;
 mod verb;
 mod words;
 

@@ -1,7 +1,8 @@
 use crate::{
-    Command, InputError, Reason, Usage, bytes_mean_one_input, read_input, read_words,
+    Command, Input, InputError, Reason, Usage, bytes_mean_one_input, read_input, read_words,
     words_mean_one_command,
 };
+use irr_cyc::Dense;
 use irr_kvec::Wave;
 use std::alloc::Global;
 use std::test::Fail;
@@ -92,11 +93,19 @@ fn the_first_faulty_word_is_named(rt: HostRuntime) -> Result<(), Fail> {
     Ok(())
 }
 
-// The lines of the generators that are read, 0 where there are no more, and the number of lines.
-fn input_read(alloc: Global, text: &str) -> Result<([u64; 3], u64), InputError> {
-    let input = read_input(alloc, text.as_bytes())?;
+// The order of an input's report, or 0 where it has none.
+fn order_of(input: &Input<Dense>) -> u32 {
+    match &input.report {
+        Some(report) => report.order,
+        None => 0,
+    }
+}
+
+// The lines of the generators that are read, 0 where there are no more, the report's order, and the number of lines.
+fn input_read(alloc: Global, text: &str) -> Result<([u64; 3], u32, u64), InputError> {
+    let input = read_input::<Dense>(alloc, text.as_bytes())?;
     let line = |i: usize| input.gens.get(i).map_or(0, |g| g.line);
-    Ok(([line(0), line(1), line(2)], input.lines))
+    Ok(([line(0), line(1), line(2)], order_of(&input), input.lines))
 }
 
 #[test]
@@ -111,13 +120,20 @@ fn lines_are_generators_or_skipped(rt: HostRuntime) {
         ("# twofold\n\n \t\n' 1/2-X , +y, Z+1/2 '\n", [4, 0, 0], 4),
         ("x,y,z\n \t# x,y\r\n\r\n\"-x,-y,z\"", [1, 4, 0], 4),
         ("#", [0, 0, 0], 1),
-        ("x,y,z\n\n", [1, 0, 0], 2),
+        ("# report\nx,y,z\n\n", [2, 0, 0], 3),
     ] {
         assert!(rt;
-            input_read(rt.alloc(), text) == Ok((lines, count)),
+            input_read(rt.alloc(), text) == Ok((lines, 0, count)),
             "at {text}"
         );
     }
+}
+
+#[test]
+fn a_report_stands_behind_the_generators(rt: HostRuntime) {
+    let text =
+        "-x,-y,-z\n\nreport 1\nwave 0,0,0\norder 1\nops 1\nop 1 x,y,z\nreps 1\nrep S1 dim 1\nchar 1\nmat 1 1\nend\n";
+    assert!(rt; input_read(rt.alloc(), text) == Ok(([1, 0, 0], 1, 12)));
 }
 
 #[test]
@@ -128,14 +144,29 @@ fn the_first_faulty_line_is_named(rt: HostRuntime) {
         ("-x,-y,-z\nx+1/0,y,z\n", 2, Reason::Zero(4)),
         ("-x,-y,-z\nx+100001,y,z\n", 2, Reason::Range(2)),
         ("subgroup\n", 1, Reason::Shape(0)),
-        ("\n#\n  report\t1\n", 3, Reason::Shape(2)),
+        ("reports 1\n", 1, Reason::Shape(0)),
         ("x,y,z\nx,y,z\r", 2, Reason::Shape(5)),
         ("x,y\nx,x,z\n", 1, Reason::Shape(3)),
         ("\rx,y,z\n", 1, Reason::Shape(0)),
+        ("x,y\nreport 2\n", 1, Reason::Shape(3)),
+        ("x,y,z\nreport\t1\n", 2, Reason::Report),
+        ("\n#\n  report\t1\n", 3, Reason::Report),
+        (
+            "x,y,z\nreport 1\nwave 0,0,0\norder 1\nops 1\nop 2 x,y,z\n",
+            6,
+            Reason::Report,
+        ),
+        ("x,y,z\nreport 1\n", 3, Reason::Report),
     ] {
         assert!(rt;
             input_read(rt.alloc(), text) == Err(InputError::Bad { line, reason }),
             "at {text}"
         );
     }
+}
+
+#[test]
+fn the_first_line_past_a_limit_is_named(rt: HostRuntime) {
+    let text = "x,y,z\nreport 1\nwave 0,0,0\norder 12001\nops 1\nop 1 x,y,z\n";
+    assert!(rt; input_read(rt.alloc(), text) == Err(InputError::ReportRange { line: 4 }));
 }
