@@ -1,10 +1,12 @@
 pub mod OneAnswer
+pub mod LineNumbers
 pub mod InputBytes
 pub mod Numerators
 pub mod Groups
 pub mod Outcomes
 pub mod SameGenerators
 pub mod Along
+pub mod Judgements
 pub mod Members
 pub mod ModestLists
 pub mod SmallTexts

@@ -5,28 +5,38 @@ use Rattle.std.proofs.Common.{◌≡◌, sym, subst, refl, ℕ, ◌⊎◌, inl, 
 use Rattle.irr_io.specs.Count.{Rose}
 use Rattle.irr_io.specs.Told.{IsAtEnd}
 use Rattle.irr_top.specs.Asked.{Asks, HaveSteps, IsAllOf, IsPastLimits}
-use Rattle.irr_top.specs.Asked.Asks.{usage, too_long, faulty_line, rotations, denominator, centrings, order_too_large, star, report, unchained}
+use Rattle.irr_top.specs.Asked.Asks.{usage, too_long, faulty_line, limited_line, no_report, rotations, denominator, centrings, order_too_large, star, report, unchained, verdict}
 use Rattle.irr_top.specs.Answered.{HasText, Answers, CutOff, Streams}
 use Rattle.irr_top.specs.Ended.{Ended}
 use Rattle.irr_top.specs.Ended.Ended.{whole, cut_off, no_memory}
 use Rattle.irr_top.specs.Outcome.{Outcome}
 use Rattle.irr_top.specs.Outcome.Outcome.{served, read_fault, no_memory as without_memory}
 use Rattle.irr_top.specs.Request.{IsCommand, IsFaultyWord}
+use Rattle.irr_top.specs.VerdictText.{verdict_status}
+use Rattle.irr_check.specs.declared.verdict.Verdict.{Verdict}
+use Rattle.irr_check.specs.declared.verdict.Verdict.TheVariants.{No, Yes}
 use Rattle.irr_top.specs.declared.status.Status.{Status}
 use Rattle.irr_top.specs.declared.status.Status.TheVariants.{Done, Usage, ReadFault, WriteFault, Memory}
 use Rattle.irr_top.proofs.OneAnswer.{asked_one, asked_status}
+
+verdict_has_text : (v : Verdict) → HasText (verdict_status v)
+verdict_has_text Yes = tt
+verdict_has_text (No clause rep i j) = tt
 
 pub asked_text : {words : List (List ℕ)} {bytes text : List ℕ} {s : Status} → Asks words bytes s text → HasText s
 asked_text (usage p) = tt
 asked_text (too_long c l) = tt
 asked_text (faulty_line c l e) = tt
+asked_text (limited_line c l e) = tt
+asked_text (no_report lines c l i h) = tt
 asked_text (rotations k gens a r) = tt
 asked_text (denominator k gens a r) = tt
 asked_text (centrings k gens a r) = tt
-asked_text (order_too_large k gens a i o l) = tt
+asked_text (order_too_large r gens w a i at o l) = tt
 asked_text (star k gens c a i o l is) = tt
 asked_text (report k gens r a i o l is) = tt
 asked_text (unchained k gens T a i o l at u) = tt
+asked_text (verdict {v = v} gens r a i o l j) = verdict_has_text v
 
 -- the text of another status than Done is not Done
 pub ended_not_done : {s t : Status} {text : List ℕ} {faults faulted : ℕ} {held holds : Option (List ℕ)} {wrote writes : Option ℕ}

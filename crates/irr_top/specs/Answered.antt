@@ -1,6 +1,6 @@
 -- What a run leaves behind.
 --   Streams, streams                       what a contract sees of a source and a sink before and after a call
---   HasText s                              a status that comes with a text: Done, and each refusal that has a line
+--   HasText s                              a status that comes with a text: Done, Rejected, and each refusal that has a line
 --   Answers words io s                     the words and all bytes of the input, where they are told, ask for s, and its text was written
 --   CutOff words io                        a front of the text that they ask for was written
 use Rattle.std.specs.Prelude.{ℕ, ⊤, Option, List, length}
@@ -8,11 +8,12 @@ use Rattle.std.specs.Io.{StartsWith}
 use Rattle.irr_io.specs.Count.{CountsAtMost}
 use Rattle.irr_io.specs.Told.{Gains, Gained}
 use Rattle.irr_top.specs.declared.status.Status.{Status}
-use Rattle.irr_top.specs.declared.status.Status.TheVariants.{Done, Usage, BadInput, TooLarge, ReadFault, WriteFault, Memory, Unchained}
+use Rattle.irr_top.specs.declared.status.Status.TheVariants.{Done, Rejected, Usage, BadInput, TooLarge, ReadFault, WriteFault, Memory, Unchained}
 use Rattle.irr_top.specs.Asked.{Asks, IsAllOf}
 
 abbrev pub HasText : Status → Type 0
 HasText Done = ⊤
+HasText (Rejected clause rep i j) = ⊤
 HasText (Usage n) = ⊤
 HasText (BadInput line reason) = ⊤
 HasText (TooLarge kind) = ⊤

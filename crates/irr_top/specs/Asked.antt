@@ -1,14 +1,17 @@
 -- What words and the bytes of an input ask for: a status, and the text that is to be written with it.
---   IsAsked words bytes r gens         the words are those of the request r, and the input has the generators
---   Asks words bytes s text            the first of these that holds decides: faulty words; too many bytes; a faulty line; too many rotations or
---                                      one with too large an entry, too large a common denominator, too many centrings; too large an order;
---                                      and else the text of the star; or that of a report of the small representations, or a subgroup of the
---                                      little co-group that has no step
+--   IsAsked words bytes r gens content     the words are those of the request r, and the input has the generators, the report, if there is
+--                                      one, and the sections that the request uses
+--   Asks words bytes s text            the first of these that holds decides: faulty words; too many bytes; the first faulty line or the first
+--                                      one that passes a limit; no report where the words are `check`, at the line after the last; too many
+--                                      rotations or one with too large an entry, too large a common denominator, too many centrings; too large
+--                                      an order; and else the text of the star; that of a report of the small representations, or a subgroup
+--                                      of the little co-group that has no step; or the line of the verdict on the input's report
 --   HaveSteps words bytes              each table of a little group whose small representations they ask for has steps
---   IsPastLimits s                     s comes where no limit is passed and no word or line is faulty
+--   IsPastLimits s                     s comes where no limit is passed and no word or line is faulty, and it is no verdict of no
 --   IsAllOf left bytes                 the bytes are all that a source has left, where it tells
 use Rattle.std.specs.Global.{Global}
-use Rattle.std.specs.Prelude.{ℕ, ◌≡◌, ◌<◌, ◌≤◌, ⊤, Option, None, Some, List, Vec, length, map}
+use Rattle.std.specs.Prelude.{ℕ, ◌≡◌, ◌+◌, ◌<◌, ◌≤◌, ⊤, Option, None, Some, List, Vec, length, map}
+use Rattle.irr_space.specs.Operation.{WaveVector}
 use Rattle.irr_space.specs.Reciprocal.{IsOrder}
 use Rattle.irr_space.specs.Reciprocal.Sign.{minus}
 use Rattle.irr_space.specs.PhaseTable.{PhaseTable}
@@ -20,19 +23,23 @@ use Rattle.irr_close.specs.StandsFor.{IsRefusal, IsAccepted}
 use Rattle.irr_close.specs.declared.CloseError.TheVariants.{Rotations as too_many_rotations, Denominator as too_large_denominator, Centrings as too_many_centrings}
 use Rattle.irr_kvec.specs.declared.wave.Wave.{Wave}
 use Rattle.irr_kvec.specs.WaveMeaning.{wave_vector}
-use Rattle.irr_input.specs.InputLines.{IsInput, IsFaultyLine}
+use Rattle.irr_input.specs.InputLines.{HasLines, IsFaultyLine, IsInput, IsLimitLine}
 use Rattle.irr_input.specs.declared.input.GenLine.{GenLine}
 use Rattle.irr_input.specs.declared.input.Reason.{Reason}
+use Rattle.irr_input.specs.declared.input.Reason.TheVariants.{Missing}
+use Rattle.irr_check.specs.declared.verdict.Verdict.{Verdict}
 use Rattle.irr_top.specs.GroupOf.{group_of}
+use Rattle.irr_top.specs.Judged.{IsJudged}
 use Rattle.irr_top.specs.LittleTable.{HasStepsAt, IsTableAt}
 use Rattle.irr_top.specs.RefusalText.{refusal_text}
-use Rattle.irr_top.specs.Request.{IsCommand, IsFaultyWord, IsRequested, wave_at}
+use Rattle.irr_top.specs.VerdictText.{verdict_status, verdict_text}
+use Rattle.irr_top.specs.Request.{HasSections, IsCommand, IsFaultyWord, IsRequested, IsWaveAsked}
 use Rattle.irr_text.specs.StarText.{StarContent, star_text, IsStarOf}
 use Rattle.irr_top.specs.declared.request.Request.{Request}
-use Rattle.irr_top.specs.declared.request.Request.TheVariants.{Star, Small}
+use Rattle.irr_top.specs.declared.request.Request.TheVariants.{Star, Small, Check}
 use Rattle.irr_top.specs.declared.status.Status.{Status}
-use Rattle.irr_top.specs.declared.status.Status.TheVariants.{Done, Usage, BadInput, TooLarge, ReadFault, WriteFault, Memory, Unchained}
-use Rattle.irr_top.specs.declared.status.Kind.TheVariants.{Bytes, Rotations, Denominator, Centrings, Order}
+use Rattle.irr_top.specs.declared.status.Status.TheVariants.{Done, Rejected, Usage, BadInput, TooLarge, ReadFault, WriteFault, Memory, Unchained}
+use Rattle.irr_top.specs.declared.status.Kind.TheVariants.{Bytes, Report, Rotations, Denominator, Centrings, Order}
 
 -- the limit on the bytes of an input, and on the order of numbers
 abbrev pub input_limit : ℕ
@@ -41,44 +48,55 @@ input_limit = 4194304
 abbrev pub order_limit : ℕ
 order_limit = ORDER_LIMIT
 
--- the words and the bytes spell a request and generators, which are the operations on the lines of the input
-pub record IsAsked (words : List (List ℕ)) (bytes : List ℕ) (r : Request) (gens : List Op) : Type 0 where
+-- the words and the bytes spell a request and generators, which are the operations on the lines of the input, and perhaps a report
+pub record IsAsked (words : List (List ℕ)) (bytes : List ℕ) (r : Request) (gens : List Op) (content : Option ReportContent) : Type 0 where
   pub requested : IsRequested words r
   pub within : length bytes ≤ input_limit
   pub lines : List GenLine
-  pub spells : IsInput bytes lines
+  pub spells : IsInput bytes lines content
   pub are : gens ≡ map (λ g. g.op) lines
+  pub sections : HasSections r content
 
 pub data Asks (words : List (List ℕ)) (bytes : List ℕ) : Status → List ℕ → Type 0 where
   usage : {n : ℕ} → IsFaultyWord words n → Asks words bytes (Usage n) (refusal_text (Usage n))
   too_long : IsCommand words → input_limit < length bytes → Asks words bytes (TooLarge Bytes) (refusal_text (TooLarge Bytes))
   faulty_line : {n : ℕ} {reason : Reason} → IsCommand words → length bytes ≤ input_limit → IsFaultyLine bytes n reason
       → Asks words bytes (BadInput n reason) (refusal_text (BadInput n reason))
-  rotations : (r : Request) (gens : List Op) → IsAsked words bytes r gens → IsRefusal gens too_many_rotations
-      → Asks words bytes (TooLarge Rotations) (refusal_text (TooLarge Rotations))
-  denominator : (r : Request) (gens : List Op) → IsAsked words bytes r gens → IsRefusal gens too_large_denominator
-      → Asks words bytes (TooLarge Denominator) (refusal_text (TooLarge Denominator))
-  centrings : (r : Request) (gens : List Op) → IsAsked words bytes r gens → IsRefusal gens too_many_centrings
-      → Asks words bytes (TooLarge Centrings) (refusal_text (TooLarge Centrings))
-  order_too_large : {n : ℕ} (r : Request) (gens : List Op) → IsAsked words bytes r gens → IsAccepted gens
-      → IsOrder (group_of gens) (wave_at r) n → order_limit < n → Asks words bytes (TooLarge (Order n)) (refusal_text (TooLarge (Order n)))
-  star : {n : ℕ} (k : Wave) (gens : List Op) (c : StarContent) → IsAsked words bytes (Star k) gens → IsAccepted gens
-      → IsOrder (group_of gens) (wave_vector k) n → n ≤ order_limit
-      → IsStarOf minus (group_of gens) (wave_vector k) c → Asks words bytes Done (star_text c)
-  report : {n : ℕ} (k : Wave) (gens : List Op) (r : ReportContent) → IsAsked words bytes (Small k) gens → IsAccepted gens
-      → IsOrder (group_of gens) (wave_vector k) n → n ≤ order_limit
-      → IsReportOf minus (group_of gens) (wave_vector k) r → Asks words bytes Done (report_text r)
-  unchained : {n h : ℕ} {members : Vec ℕ Global} (k : Wave) (gens : List Op) (T : PhaseTable h) → IsAsked words bytes (Small k) gens
+  limited_line : {n : ℕ} → IsCommand words → length bytes ≤ input_limit → IsLimitLine bytes n
+      → Asks words bytes (TooLarge (Report n)) (refusal_text (TooLarge (Report n)))
+  no_report : {n : ℕ} (lines : List GenLine) → IsRequested words Check → length bytes ≤ input_limit → IsInput bytes lines None → HasLines bytes n
+      → Asks words bytes (BadInput (n + 1) Missing) (refusal_text (BadInput (n + 1) Missing))
+  rotations : {content : Option ReportContent} (r : Request) (gens : List Op) → IsAsked words bytes r gens content
+      → IsRefusal gens too_many_rotations → Asks words bytes (TooLarge Rotations) (refusal_text (TooLarge Rotations))
+  denominator : {content : Option ReportContent} (r : Request) (gens : List Op) → IsAsked words bytes r gens content
+      → IsRefusal gens too_large_denominator → Asks words bytes (TooLarge Denominator) (refusal_text (TooLarge Denominator))
+  centrings : {content : Option ReportContent} (r : Request) (gens : List Op) → IsAsked words bytes r gens content
+      → IsRefusal gens too_many_centrings → Asks words bytes (TooLarge Centrings) (refusal_text (TooLarge Centrings))
+  order_too_large : {content : Option ReportContent} {n : ℕ} (r : Request) (gens : List Op) (w : WaveVector) → IsAsked words bytes r gens content
+      → IsAccepted gens → IsWaveAsked r content w → IsOrder (group_of gens) w n → order_limit < n
+      → Asks words bytes (TooLarge (Order n)) (refusal_text (TooLarge (Order n)))
+  star : {content : Option ReportContent} {n : ℕ} (k : Wave) (gens : List Op) (c : StarContent) → IsAsked words bytes (Star k) gens content
       → IsAccepted gens → IsOrder (group_of gens) (wave_vector k) n → n ≤ order_limit
+      → IsStarOf minus (group_of gens) (wave_vector k) c → Asks words bytes Done (star_text c)
+  report : {content : Option ReportContent} {n : ℕ} (k : Wave) (gens : List Op) (r : ReportContent) → IsAsked words bytes (Small k) gens content
+      → IsAccepted gens → IsOrder (group_of gens) (wave_vector k) n → n ≤ order_limit
+      → IsReportOf minus (group_of gens) (wave_vector k) r → Asks words bytes Done (report_text r)
+  unchained : {content : Option ReportContent} {n h : ℕ} {members : Vec ℕ Global} (k : Wave) (gens : List Op) (T : PhaseTable h)
+      → IsAsked words bytes (Small k) gens content → IsAccepted gens → IsOrder (group_of gens) (wave_vector k) n → n ≤ order_limit
       → IsTableAt minus (group_of gens) (wave_vector k) T → IsUnchained T members.items
       → Asks words bytes (Unchained members) (refusal_text (Unchained members))
+  verdict : {n : ℕ} {v : Verdict} (gens : List Op) (r : ReportContent) → IsAsked words bytes Check gens (Some r)
+      → IsAccepted gens → IsOrder (group_of gens) r.wave n → n ≤ order_limit
+      → IsJudged minus (group_of gens) r v → Asks words bytes (verdict_status v) (verdict_text v)
 
 -- the premise of steps for what is asked for
 abbrev pub HaveSteps : List (List ℕ) → List ℕ → Type 0
-HaveSteps words bytes = (k : Wave) (gens : List Op) → IsAsked words bytes (Small k) gens → HasStepsAt minus (group_of gens) (wave_vector k)
+HaveSteps words bytes = (k : Wave) (gens : List Op) (content : Option ReportContent) → IsAsked words bytes (Small k) gens content
+    → HasStepsAt minus (group_of gens) (wave_vector k)
 
 abbrev pub IsPastLimits : Status → Type 0
 IsPastLimits Done = ⊤
+IsPastLimits (Rejected clause rep i j) = ⊥
 IsPastLimits (Usage n) = ⊥
 IsPastLimits (BadInput line reason) = ⊥
 IsPastLimits (TooLarge kind) = ⊥

@@ -6,11 +6,11 @@ use Rattle.std.specs.Prelude.{ℕ, suc, ⊤, List, [], ◌∷◌, ◌++◌, code
 use Rattle.std.specs.List.{flat_map}
 use Rattle.std.specs.Fmt.{decimal}
 use Rattle.irr_top.specs.declared.status.Status.{Status}
-use Rattle.irr_top.specs.declared.status.Status.TheVariants.{Done, Usage, BadInput, TooLarge, ReadFault, WriteFault, Memory, Unchained}
+use Rattle.irr_top.specs.declared.status.Status.TheVariants.{Done, Rejected, Usage, BadInput, TooLarge, ReadFault, WriteFault, Memory, Unchained}
 use Rattle.irr_input.specs.declared.input.Reason.{Reason}
-use Rattle.irr_input.specs.declared.input.Reason.TheVariants.{Shape, Zero, Range, Determinant}
+use Rattle.irr_input.specs.declared.input.Reason.TheVariants.{Shape, Zero, Range, Determinant, Missing, Report as ReportFault}
 use Rattle.irr_top.specs.declared.status.Kind.{Kind}
-use Rattle.irr_top.specs.declared.status.Kind.TheVariants.{Bytes, Rotations, Denominator, Centrings, Order}
+use Rattle.irr_top.specs.declared.status.Kind.TheVariants.{Bytes, Report, Rotations, Denominator, Centrings, Order}
 
 -- the reason, with a column where it has one, which counts from 1
 abbrev pub reason_text : Reason → List ℕ
@@ -18,9 +18,12 @@ reason_text (Shape place) = codes "shape " ++ decimal (suc place)
 reason_text (Zero place) = codes "zero " ++ decimal (suc place)
 reason_text (Range place) = codes "range " ++ decimal (suc place)
 reason_text Determinant = codes "determinant"
+reason_text Missing = codes "missing"
+reason_text ReportFault = codes "report"
 
 abbrev pub kind_text : Kind → List ℕ
 kind_text Bytes = codes "bytes"
+kind_text (Report n) = codes "report line " ++ decimal n
 kind_text Rotations = codes "rotations"
 kind_text Denominator = codes "denominator"
 kind_text Centrings = codes "centrings"
@@ -31,6 +34,7 @@ numbers_text ns = flat_map (λ n. 32 ∷ decimal (suc n)) ns
 
 abbrev pub refusal_text : Status → List ℕ
 refusal_text Done = []
+refusal_text (Rejected clause rep i j) = []
 refusal_text (Usage n) = codes "usage " ++ decimal n ++ 10 ∷ []
 refusal_text (BadInput line reason) = codes "bad input line " ++ decimal line ++ codes ": " ++ reason_text reason ++ 10 ∷ []
 refusal_text (TooLarge kind) = codes "too large: " ++ kind_text kind ++ 10 ∷ []
@@ -42,6 +46,7 @@ refusal_text (Unchained members) = codes "unchained:" ++ numbers_text members.it
 -- a refusal that has a line
 abbrev pub HasLine : Status → Type 0
 HasLine Done = ⊥
+HasLine (Rejected clause rep i j) = ⊥
 HasLine (Usage n) = ⊤
 HasLine (BadInput line reason) = ⊤
 HasLine (TooLarge kind) = ⊤

@@ -1,24 +1,28 @@
 -- The commands that are served.
 --   command_of r           the command of a request
---   named_wave r, wave_at r     the wave vector that it names
+--   named_wave r           the wave vector that it names, if it names one
+--   HasSections r report   the input has the sections that the request uses: `check` a report
+--   IsWaveAsked r report w     w is the wave vector that is asked for: the one that the request names, or for `check` the report's
 --   IsServed c             the command is served
 --   IsRequested words r    the words are those of the command
 --   IsCommand words        the words are those of a command that is served
 --   BeginsServed words     the first word is that of a command that is served
 --   IsFaultyWord words n   the n-th word, counted from 1, is the first that no served command has there, or the first that is missing
-use Rattle.std.specs.Prelude.{ℕ, ◌≡◌, ◌⊎◌, List, [], ◌∷◌, codes}
+use Rattle.std.specs.Prelude.{ℕ, ◌≡◌, ◌⊎◌, Option, Some, None, List, [], ◌∷◌, codes}
 use Rattle.irr_space.specs.Operation.{WaveVector}
 use Rattle.irr_kvec.specs.declared.wave.Wave.{Wave}
 use Rattle.irr_kvec.specs.WaveMeaning.{wave_vector}
+use Rattle.irr_text.specs.ReportText.{ReportContent}
 use Rattle.irr_input.specs.Command.{AreWords, IsFaulty}
 use Rattle.irr_input.specs.declared.words.Command.{Command}
 use Rattle.irr_input.specs.declared.words.Command.TheVariants as commands
 use Rattle.irr_top.specs.declared.request.Request.{Request}
-use Rattle.irr_top.specs.declared.request.Request.TheVariants.{Star, Small}
+use Rattle.irr_top.specs.declared.request.Request.TheVariants.{Star, Small, Check}
 
 abbrev pub command_of : Request → Command
 command_of (Star k) = commands.Star k
 command_of (Small k) = commands.Small k
+command_of Check = commands.Check
 
 abbrev pub IsServed : Command → Type 0
 IsServed (commands.Star k) = Unit {0}
@@ -27,15 +31,25 @@ IsServed (commands.Full k) = ⊥
 IsServed (commands.Product k l) = ⊥
 IsServed (commands.Subduce k) = ⊥
 IsServed (commands.Compat k l m) = ⊥
-IsServed commands.Check = ⊥
+IsServed commands.Check = Unit {0}
 IsServed (commands.Gen n) = ⊥
 
-abbrev pub named_wave : Request → Wave
-named_wave (Star k) = k
-named_wave (Small k) = k
+abbrev pub named_wave : Request → Option Wave
+named_wave (Star k) = Some k
+named_wave (Small k) = Some k
+named_wave Check = None
 
-abbrev pub wave_at : Request → WaveVector
-wave_at r = wave_vector (named_wave r)
+abbrev pub HasSections : Request → Option ReportContent → Type 0
+HasSections (Star k) report = Unit {0}
+HasSections (Small k) report = Unit {0}
+HasSections Check None = ⊥
+HasSections Check (Some r) = Unit {0}
+
+abbrev pub IsWaveAsked : Request → Option ReportContent → WaveVector → Type 0
+IsWaveAsked (Star k) report w = w ≡ wave_vector k
+IsWaveAsked (Small k) report w = w ≡ wave_vector k
+IsWaveAsked Check None w = ⊥
+IsWaveAsked Check (Some r) w = w ≡ r.wave
 
 abbrev pub IsRequested : List (List ℕ) → Request → Type 0
 IsRequested words r = AreWords words (command_of r)
@@ -45,7 +59,7 @@ IsCommand words = (r : Request) × IsRequested words r
 
 abbrev pub BeginsServed : List (List ℕ) → Type 0
 BeginsServed [] = ⊥
-BeginsServed (w ∷ ws) = (w ≡ codes "star") ⊎ (w ≡ codes "small")
+BeginsServed (w ∷ ws) = (w ≡ codes "star") ⊎ ((w ≡ codes "small") ⊎ (w ≡ codes "check"))
 
 abbrev pub IsFaultyWord : List (List ℕ) → ℕ → Type 0
 IsFaultyWord words n = IsFaulty IsCommand words n

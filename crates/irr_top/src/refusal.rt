@@ -27,9 +27,11 @@ fn line(alloc: Global, status: &Status) -> Result<String, AllocError>
         Status::BadInput { line, reason } => bad_line(alloc, *line, *reason),
         Status::TooLarge(kind) => large_line(alloc, *kind),
         Status::Unchained(members) => unchained_line(alloc, members),
-        Status::Done | Status::ReadFault | Status::WriteFault | Status::Memory => {
-            String::from_str(alloc, "")
-        }
+        Status::Done
+        | Status::Rejected { .. }
+        | Status::ReadFault
+        | Status::WriteFault
+        | Status::Memory => String::from_str(alloc, ""),
     }
 }
 
@@ -39,6 +41,7 @@ fn large_line(alloc: Global, kind: Kind) -> Result<String, AllocError>
 {
     match kind {
         Kind::Bytes => format!(in alloc; "too large: bytes\n"),
+        Kind::Report(n) => format!(in alloc; "too large: report line {n}\n"),
         Kind::Rotations => format!(in alloc; "too large: rotations\n"),
         Kind::Denominator => format!(in alloc; "too large: denominator\n"),
         Kind::Centrings => format!(in alloc; "too large: centrings\n"),
@@ -64,6 +67,8 @@ fn bad_line(alloc: Global, line: u64, reason: Reason) -> Result<String, AllocErr
             format!(in alloc; "bad input line {line}: range {column}\n")
         }
         Reason::Determinant => format!(in alloc; "bad input line {line}: determinant\n"),
+        Reason::Missing => format!(in alloc; "bad input line {line}: missing\n"),
+        Reason::Report => format!(in alloc; "bad input line {line}: report\n"),
     }
 }
 

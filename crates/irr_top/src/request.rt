@@ -1,7 +1,7 @@
 // The commands that are served.
 ghost use Rattle.std.specs.Prelude.{◌≡◌, ◌↔◌, IfOk, IfErr, IfSome, IsNone, IsTrue};
 ghost use Rattle.irr_input.specs.Command.{texts};
-ghost use Rattle.irr_top.specs.Request.{command_of, BeginsServed, IsFaultyWord, IsServed, IsRequested, named_wave};
+ghost use Rattle.irr_top.specs.Request.{command_of, named_wave, BeginsServed, IsFaultyWord, IsServed, IsRequested};
 ghost use Rattle.irr_kvec.specs.Centrings.{IsWithinLimits};
 
 use irr_input::{Command, Usage, read_words};
@@ -14,13 +14,15 @@ pub(crate) enum Request {
     Star(Wave),
     /// The small representations at a wave vector.
     Small(Wave),
+    /// The verdict on the input's report.
+    Check,
 }
 
 /// The request that the words are. An error is the number of the first word, counted from 1, that no command
 /// that is served has there, or that is missing.
 pub(crate) fn served(words: &[Vec<u8>]) -> Result<Request, u32>
     ensures requested { IfOk result (λ r. IsRequested (texts words.now) r) }
-    ensures limits { IfOk result (λ r. IsWithinLimits (named_wave r)) }
+    ensures limits { IfOk result (λ r. IfSome (named_wave r) IsWithinLimits) }
     ensures faulty { IfErr result (λ n. IsFaultyWord (texts words.now) n) }
 {
     match read_words(words) {
@@ -40,11 +42,11 @@ fn request_of(command: Command) -> Option<Request>
     match command {
         Command::Star(wave) => Some(Request::Star(wave)),
         Command::Small(wave) => Some(Request::Small(wave)),
+        Command::Check => Some(Request::Check),
         Command::Full(_)
         | Command::Product(..)
         | Command::Subduce(_)
         | Command::Compat(..)
-        | Command::Check
         | Command::Gen(_) => None,
     }
 }
@@ -54,7 +56,7 @@ fn begins_served(words: &[Vec<u8>]) -> bool
     ensures { IsTrue result ↔ BeginsServed (texts words.now) }
 {
     match words.split_first() {
-        Some((first, _)) => matches!(first.as_slice(), b"star" | b"small"),
+        Some((first, _)) => matches!(first.as_slice(), b"star" | b"small" | b"check"),
         None => false,
     }
 }

@@ -1,6 +1,7 @@
 // How a run ends.
 ghost use Rattle.std.specs.Prelude.{◌≡◌};
 
+use irr_check::Clause;
 use irr_input::Reason;
 
 /// Which limit was passed.
@@ -8,6 +9,8 @@ use irr_input::Reason;
 pub enum Kind {
     /// More than 4,194,304 bytes of input.
     Bytes,
+    /// The first line of the input, counted from 1, that passes a limit on reports.
+    Report(u64),
     /// More than 48 rotations, or one with an entry above 9 in absolute value.
     Rotations,
     /// The least common denominator of the generators' vectors, which is above 100,000.
@@ -23,10 +26,21 @@ pub enum Kind {
 pub enum Status {
     /// The text that was asked for is written.
     Done,
+    /// The verdict on a report is no, and its line is written: the clause that fails first, with the numbers of
+    /// `Verdict::No`.
+    Rejected {
+        clause: Clause,
+        rep: u32,
+        i: u32,
+        j: u32,
+    },
     /// The words are no command: the word of this number, counted from 1, is wrong, superfluous or missing.
     Usage(u32),
-    /// The first faulty line of the input, counted from 1.
-    BadInput { line: u64, reason: Reason },
+    /// The first faulty line of the input, counted from 1; the one after the last where a report is missing.
+    BadInput {
+        line: u64,
+        reason: Reason,
+    },
     /// A limit was passed.
     TooLarge(Kind),
     /// A read failed.
@@ -49,6 +63,7 @@ impl Status {
     {
         match self {
             Status::Done => 0,
+            Status::Rejected { .. } => 1,
             Status::Usage(_) => 2,
             Status::BadInput { .. } => 3,
             Status::TooLarge(_) => 4,

@@ -43,6 +43,21 @@ fn small_at(alloc: Global, input: &str, wave: &str) -> Result<(Status, Vec<u8>),
     at(alloc, "small", input, wave)
 }
 
+// What `check` writes on this input, and its status.
+fn checked(alloc: Global, input: &[u8]) -> Result<(Status, Vec<u8>), Fail> {
+    let bytes = Vec::from_slice(alloc, input)?;
+    ran(alloc, &["check"], bytes, Vec::new(alloc), 1 << 20)
+}
+
+// Whether `check` finds that a report behind this input is right and complete.
+fn is_accepted(alloc: Global, input: &str, report: &[u8]) -> Result<bool, Fail> {
+    let mut both = Vec::from_slice(alloc, input.as_bytes())?;
+    both.push(b'\n')?;
+    both.extend_from_slice(report)?;
+    let (status, text) = checked(alloc, &both)?;
+    Ok(status.code() == 0 && text.as_slice() == b"yes\n".as_slice())
+}
+
 // Whether the lines of a text that begin with a word are these, or begin with these.
 fn lines_are(text: &[u8], word: &str, lines: &[&str], whole: bool) -> bool {
     let mut rest = text;
@@ -105,6 +120,7 @@ fn the_small_representation_is_reported(rt: HostRuntime) -> Result<(), Fail> {
             report(rt.alloc(), wave, order)?.as_bytes(),
             "at {word}"
         );
+        assert!(rt; is_accepted(rt.alloc(), input, &text)?, "at {word}");
     }
     Ok(())
 }
@@ -189,7 +205,8 @@ fn a_triplet_is_read_as_a_database_writes_it(rt: HostRuntime) -> Result<(), Fail
     Ok(())
 }
 
-// Whether `small` at a wave vector is done, with a report of this order and number of operations, and these lines that begin with a word.
+// Whether `small` at a wave vector is done, with a report of this order and number of operations, and these lines
+// that begin with a word, which `check` finds right and complete.
 fn has_report(
     alloc: Global,
     input: &str,
@@ -200,6 +217,9 @@ fn has_report(
 ) -> Result<bool, Fail> {
     let (status, text) = small_at(alloc, input, wave)?;
     if status.code() != 0 {
+        return Ok(false);
+    }
+    if !is_accepted(alloc, input, &text)? {
         return Ok(false);
     }
     if !lines_are(&text, "order ", &head[..1], true) {
@@ -276,6 +296,23 @@ fn a_fourfold_screw_axis_inside_the_zone(rt: HostRuntime) -> Result<(), Fail> {
     ];
     let head = ["order 16", "ops 4"];
     assert!(rt; has_report(rt.alloc(), "-y,x,z+1/4\n", "0,0,1/4", head, "char ", &chars)?);
+    let reps = [
+        "rep S1 dim 1",
+        "rep S2 dim 1",
+        "rep S3 dim 1",
+        "rep S4 dim 1",
+    ];
+    let head = ["order 12000", "ops 4"];
+    assert!(rt;
+        has_report(
+            rt.alloc(),
+            "-y,x,z+1/4\n",
+            "0,0,1/3000",
+            head,
+            "rep ",
+            &reps
+        )?
+    );
     Ok(())
 }
 
@@ -385,6 +422,8 @@ fn a_line_of_a_cubic_group(rt: HostRuntime) -> Result<(), Fail> {
     assert!(rt; has_report(rt.alloc(), CUBIC, "1/20,0,0", head, "rep ", &reps)?);
     let head = ["order 252", "ops 8"];
     assert!(rt; has_report(rt.alloc(), CUBIC, "1/21,0,0", head, "rep ", &reps)?);
+    let head = ["order 12000", "ops 8"];
+    assert!(rt; has_report(rt.alloc(), CUBIC, "1/1000,0,0", head, "rep ", &reps)?);
     Ok(())
 }
 
@@ -402,7 +441,7 @@ fn words_are_refused(rt: HostRuntime) -> Result<(), Fail> {
         (&["star", "1/0,0,0"], "usage 2\n"),
         (&["star", "0,0,0", "0"], "usage 3\n"),
         (&["full", "0,0,0"], "usage 1\n"),
-        (&["check", "0"], "usage 1\n"),
+        (&["check", "0"], "usage 2\n"),
     ] {
         let (status, text) = ran(
             rt.alloc(),
@@ -522,6 +561,8 @@ fn a_line_of_a_refusal_is_made(rt: HostRuntime) -> Result<(), Fail> {
         (Reason::Zero(4), "bad input line 2: zero 5\n"),
         (Reason::Range(2), "bad input line 2: range 3\n"),
         (Reason::Determinant, "bad input line 2: determinant\n"),
+        (Reason::Missing, "bad input line 2: missing\n"),
+        (Reason::Report, "bad input line 2: report\n"),
     ] {
         let status = Status::BadInput { line: 2, reason };
         let line = text_refusal(rt.alloc(), &status)?;
@@ -533,5 +574,120 @@ fn a_line_of_a_refusal_is_made(rt: HostRuntime) -> Result<(), Fail> {
     assert_eq!(rt; status.code(), 8);
     assert_eq!(rt; Status::TooLarge(Kind::Bytes).code(), 4);
     assert_eq!(rt; Status::Memory.code(), 7);
+    Ok(())
+}
+
+#[test]
+fn a_report_of_a_screw_axis_is_right(rt: HostRuntime) -> Result<(), Fail> {
+    let (axis, report) = (SCREW, SCREW_REPORT);
+    let input = format!(in rt.alloc(); "{axis}{report}")?;
+    let (status, text) = checked(rt.alloc(), input.as_bytes())?;
+    assert_eq!(rt; status, Status::Done);
+    assert_eq!(rt; text.as_slice(), b"yes\n".as_slice());
+    Ok(())
+}
+
+// The real representation of two rows has an invariant subspace over the numbers of order 3.
+const REAL_REPORT: &str =
+    "-y,x-y,z\nreport 1\nwave 0,0,0\norder 3\nops 3\nop 1 x,y,z\nop 2 -x+y,-x,z\nop 3 -y,x-y,z\nreps 2\n\
+    rep S1 dim 1\nchar 1 1 1\nmat 1 1\nmat 2 1\nmat 3 1\n\
+    rep S2 dim 2\nchar 2 -1 -1\nmat 1 1 0 0 1\nmat 2 -1 1 -1 0\nmat 3 0 -1 1 -1\nend\n";
+
+// The character and the matrices of the first representation of the screw axis, and what follows.
+const SCREW_FIRST: &str = "char 1 1*z^1\nmat 1 1\nmat 2 1*z^1\n";
+
+const SCREW_REST: &str = "rep S2 dim 1\nchar 1 -1*z^1\nmat 1 1\nmat 2 -1*z^1\nend\n";
+
+// Whether `check` answers a report of the screw axis at the zone face, of this order and with these lines, so.
+fn is_answered(
+    alloc: Global,
+    order: u32,
+    count: u32,
+    first: &str,
+    rest: &str,
+    code: u8,
+    line: &str,
+) -> Result<bool, Fail> {
+    let axis = SCREW;
+    let input = format!(in alloc;
+        "{axis}report 1\nwave 0,1/2,0\norder {order}\nops 2\nop 1 x,y,z\nop 2 -x,y+1/2,-z\n\
+        reps {count}\nrep S1 dim 1\n{first}{rest}"
+    )?;
+    let (status, text) = checked(alloc, input.as_bytes())?;
+    Ok(status.code() == code && text.as_slice() == line.as_bytes())
+}
+
+#[test]
+fn reports_of_a_screw_axis_are_judged(rt: HostRuntime) -> Result<(), Fail> {
+    let (alloc, first, rest) = (rt.alloc(), SCREW_FIRST, SCREW_REST);
+    let unit = "char 1 1*z^1\nmat 1 1\nmat 2 1\n";
+    assert!(rt; is_answered(alloc, 4, 2, unit, rest, 1, "no multiply S1 2 2\n")?);
+    let opposite = "char 1 1*z^1\nmat 1 1\nmat 2 -1*z^1\n";
+    assert!(rt; is_answered(alloc, 4, 2, opposite, rest, 1, "no char S1 2\n")?);
+    let again = "rep S2 dim 1\nchar 1 1*z^1\nmat 1 1\nmat 2 1*z^1\nend\n";
+    assert!(rt; is_answered(alloc, 4, 2, first, again, 1, "no equivalent S1 S2\n")?);
+    assert!(rt; is_answered(alloc, 4, 1, first, "end\n", 1, "no missing\n")?);
+    assert!(rt; is_answered(alloc, 8, 2, first, rest, 1, "no order 4\n")?);
+    let unended = "rep S2 dim 1\nchar 1 -1*z^1\nmat 1 1\nmat 2 -1*z^1\n";
+    assert!(rt;
+        is_answered(
+            alloc,
+            4,
+            2,
+            first,
+            unended,
+            3,
+            "bad input line 17: report\n"
+        )?
+    );
+    Ok(())
+}
+
+#[test]
+fn reports_are_judged_or_refused(rt: HostRuntime) -> Result<(), Fail> {
+    let other_order = report(rt.alloc(), "0,0,0", 241)?;
+    let large_order = report(rt.alloc(), "0,0,0", 12001)?;
+    for (input, code, line) in [
+        (REAL_REPORT, 1, "no reducible S2\n"),
+        (other_order.as_str(), 1, "no order 1\n"),
+        (large_order.as_str(), 4, "too large: report line 3\n"),
+        ("", 3, "bad input line 1: missing\n"),
+        (SCREW, 3, "bad input line 2: missing\n"),
+        (
+            "-x,-y,-z\nreport 1\nwave 0,0\n",
+            3,
+            "bad input line 3: report\n",
+        ),
+    ] {
+        let (status, text) = checked(rt.alloc(), input.as_bytes())?;
+        assert_eq!(rt; status.code(), code, "at {line}");
+        assert_eq!(rt; text.as_slice(), line.as_bytes(), "at {line}");
+    }
+    Ok(())
+}
+
+#[test]
+fn a_line_of_a_verdict_is_made(rt: HostRuntime) -> Result<(), Fail> {
+    for (clause, expected) in [
+        (Clause::Order, "no order 5\n"),
+        (Clause::Ops, "no ops 5\n"),
+        (Clause::Unit, "no unit S12\n"),
+        (Clause::Multiply, "no multiply S12 5 7\n"),
+        (Clause::Char, "no char S12 5\n"),
+        (Clause::Reducible, "no reducible S12\n"),
+        (Clause::Equivalent, "no equivalent S12 S5\n"),
+        (Clause::Missing, "no missing\n"),
+    ] {
+        let verdict = Verdict::No {
+            clause,
+            rep: 12,
+            i: 5,
+            j: 7,
+        };
+        let line = text_verdict(rt.alloc(), &verdict)?;
+        assert_eq!(rt; line.as_slice(), expected.as_bytes());
+    }
+    let line = text_verdict(rt.alloc(), &Verdict::Yes)?;
+    assert_eq!(rt; line.as_slice(), b"yes\n".as_slice());
     Ok(())
 }

@@ -39,8 +39,8 @@ pub fn run<I: Source, O: Sink>(
         (streams (I.left source.old) (O.held sink.old) (O.held sink.new) (O.writes sink.old) (O.writes sink.new)) }
     ensures memory { result ≡ Status.Memory → O.held sink.new ≡ O.held sink.old }
 
-    // What is asked for is answered, unless a stream fails or memory is wanting: each refusal and the star without more ado, the report
-    // where the tables of the little group have steps.
+    // What is asked for is answered, unless a stream fails or memory is wanting: each refusal, the star and the verdict without more ado,
+    // the report where the tables of the little group have steps.
     ensures usage { (n : ℕ) → IsFaultyWord (texts words.now) n →
         (result ≡ Status.Usage n) ⊎ ((result ≡ Status.Memory) ⊎ (result ≡ Status.WriteFault)) }
     ensures asked { (bytes text : List ℕ) (s : Status) → I.left source.old ≡ Some bytes →

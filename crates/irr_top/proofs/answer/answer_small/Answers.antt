@@ -1,6 +1,7 @@
 -- The answer to `small` where the group is known.
 use Rattle.std.proofs.Common.{◌∙◌, subst, refl, ℕ, List}
 use Rattle.irr_text.specs.ReportText.{report_text}
+use Rattle.irr_kvec.specs.WaveMeaning.{wave_vector}
 use Rattle.irr_top.specs.RefusalText.{refusal_text}
 use Rattle.irr_top.specs.Asked.Asks.{order_too_large, report, unchained}
 use Rattle.irr_top.specs.Ended.{Ended}
@@ -11,7 +12,7 @@ use Rattle.irr_top.specs.declared.status.Kind.TheVariants.{Order}
 use Rattle.irr_top.proofs.answer.answer_small.Goals as goal
 
 pub returns-in-Ok : goal.returns-in-Ok
-returns-in-Ok g c = λ words bytes gens a i is.
+returns-in-Ok g c = λ words bytes gens content a i is.
     let t = c.in-Ok.ensures.text gens is in
     let P : List ℕ → Type 0 = λ text. Ended Done text (g.O.Sink.faults c.args.sink.now) (g.O.Sink.faults c.finish.new.sink)
     (g.O.Sink.held c.args.sink.now) (g.O.Sink.held c.finish.new.sink)
@@ -24,17 +25,17 @@ returns-in-Ok g c = λ words bytes gens a i is.
     })
 
 pub returns-in-Err-OrderTooLarge : goal.returns-in-Err-OrderTooLarge
-returns-in-Err-OrderTooLarge g c = λ words bytes gens a i is.
+returns-in-Err-OrderTooLarge g c = λ words bytes gens content a i is.
     let f = rw c.in-Err-OrderTooLarge.field-0-is at c.in-Err-OrderTooLarge.ensures.none gens is in
     serves (record {
       status = TooLarge (Order c.in-Err-OrderTooLarge.order);
       text = refusal_text (TooLarge (Order c.in-Err-OrderTooLarge.order));
-      asks = order_too_large (Small c.args.wave.now) gens a i f.0 f.1;
+      asks = order_too_large (Small c.args.wave.now) gens (wave_vector c.args.wave.now) a i refl f.0 f.1;
       ended = c.refuse.ensures;
     })
 
 pub returns-in-Err-Unchained : goal.returns-in-Err-Unchained
-returns-in-Err-Unchained g c = λ words bytes gens a i is.
+returns-in-Err-Unchained g c = λ words bytes gens content a i is.
     let f = rw c.in-Err-Unchained.field-0-is at c.in-Err-Unchained.ensures.none gens is in
     serves (record {
       status = Unchained c.in-Err-Unchained.members;
@@ -44,4 +45,4 @@ returns-in-Err-Unchained g c = λ words bytes gens a i is.
     })
 
 pub returns-in-Err-Memory : goal.returns-in-Err-Memory
-returns-in-Err-Memory g c = λ words bytes gens a i is. without_memory refl
+returns-in-Err-Memory g c = λ words bytes gens content a i is. without_memory refl

@@ -26,6 +26,14 @@ determinant_pieces : (a : List ℕ) → codes "bad input line " ++ (a ++ codes "
     codes "determinant" ++ 10 ∷ []
 determinant_pieces a = regroup (codes "bad input line ") a (codes ": ") (codes "determinant") (10 ∷ [])
 
+missing_pieces : (a : List ℕ) → codes "bad input line " ++ (a ++ codes ": missing\n") ≡ codes "bad input line " ++ a ++ codes ": " ++
+    codes "missing" ++ 10 ∷ []
+missing_pieces a = regroup (codes "bad input line ") a (codes ": ") (codes "missing") (10 ∷ [])
+
+report_pieces : (a : List ℕ) → codes "bad input line " ++ (a ++ codes ": report\n") ≡ codes "bad input line " ++ a ++ codes ": " ++
+    codes "report" ++ 10 ∷ []
+report_pieces a = regroup (codes "bad input line ") a (codes ": ") (codes "report") (10 ∷ [])
+
 pub returns-in-Shape : goal.returns-in-Shape
 returns-in-Shape c =
     subst (λ r. IfOk c.format.result (λ s. string_bytes s ≡ refusal_text (BadInput c.args.line r))) (sym c.in-Shape.is)
@@ -55,3 +63,15 @@ returns-in-Determinant c =
     subst (λ r. IfOk c.format-in-Determinant.result (λ s. string_bytes s ≡ refusal_text (BadInput c.args.line r))) (sym c.in-Determinant.is)
     (subst (λ text. IfOk c.format-in-Determinant.result (λ s. string_bytes s ≡ text)) (determinant_pieces (decimal c.args.line))
     c.format-in-Determinant.ensures.ok)
+
+pub returns-in-Missing : goal.returns-in-Missing
+returns-in-Missing c =
+    subst (λ r. IfOk c.format-in-Missing.result (λ s. string_bytes s ≡ refusal_text (BadInput c.args.line r))) (sym c.in-Missing.is)
+    (subst (λ text. IfOk c.format-in-Missing.result (λ s. string_bytes s ≡ text)) (missing_pieces (decimal c.args.line))
+    c.format-in-Missing.ensures.ok)
+
+pub returns-in-Report : goal.returns-in-Report
+returns-in-Report c =
+    subst (λ r. IfOk c.format-in-Report.result (λ s. string_bytes s ≡ refusal_text (BadInput c.args.line r))) (sym c.in-Report.is)
+    (subst (λ text. IfOk c.format-in-Report.result (λ s. string_bytes s ≡ text)) (report_pieces (decimal c.args.line))
+    c.format-in-Report.ensures.ok)
