@@ -1,13 +1,15 @@
 -- One pass of the reduction at a prime, place by place.
 --   IsMovedBelow          the classes of the top powers below a place have been reduced, and no others
---   moved-start, moved-taken, moved-other, moved-end     at the start, after a top power, after another place, in the end
-use Rattle.std.proofs.Common.{◌≡◌, ◌≢◌, refl, sym, ◌∙◌, ap, ap₂, subst, ℕ, ℤ, ◌+◌, ◌*◌, ◌-◌, ◌/◌, ◌%◌, ◌^◌, ◌<◌, ◌≤◌, ◌-ℤ◌, inl, inr, arith}
+--   moved-start, moved-taken, moved-other, moved-nothing, moved-end     at the start, after a top power, after another place, after a
+--                         coefficient 0, in the end
+use Rattle.std.proofs.Common.{◌≡◌, ◌≢◌, refl, sym, ◌∙◌, ap, ap₂, subst, ℕ, ℤ, ◌+◌, ◌*◌, ◌-◌, ◌/◌, ◌%◌, ◌^◌, ◌<◌, ◌≤◌, ◌-ℤ◌, pos, inl, inr, arith}
 use Rattle.std.proofs.lemmas.Bool.{cases_lt}
 use Rattle.std.specs.Int.{◌∣◌}
 use native.Mathlib.Decide.{ℕ_discrete}
 use native.Mathlib.Nat as Nat
 use Rattle.irr_canonical.specs.Reduction.{IsReducedAt, IsTop}
 use Rattle.irr_canonical.proofs.Reductions.{IsTop_of_factors, digit_of_factors, top_unique}
+use Rattle.irr_number.specs.Integers.{+ℤ-zero}
 use Rattle.irr_cyc.specs.Part.{IsPart}
 
 -- f became g at the classes of the top powers below a place, and is left at the others
@@ -61,3 +63,10 @@ module _ (N p base : ℕ) (hN : 0 < N) (part : IsPart N p base) where
     pub moved-other : ((place / base) % p ≢ p - 1) → IsMovedBelow N p (place + 1) f g
     moved-other n i t li lti ht e = let ne : t ≢ place = (λ q. n (ap (λ x. (x / base) % p) (sym q) ∙ digit-top t ht)) in
         ((λ l. (m i t li lti ht e).0 (omega arith)), λ l. (m i t li lti ht e).1 (omega arith))
+
+  -- after a coefficient 0
+  pub moved-nothing : (f g : ℕ → ℤ) (place : ℕ) → place < N → IsMovedBelow N p place f g → g place ≡ pos 0 → IsMovedBelow N p (place + 1) f g
+  moved-nothing f g place lt m e = elim (ℕ_discrete ((place / base) % p) (p - 1)) [
+    | yes top ↦ moved-taken f g g place lt m (top-digit place top) (λ i li same. sym (ap (λ z. g i -ℤ z) e ∙ +ℤ-zero (g i))) (λ i li other. refl)
+    | no other ↦ moved-other f g g place lt m other
+  ]

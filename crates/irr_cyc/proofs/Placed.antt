@@ -30,6 +30,14 @@ module _ (f : ℕ → ℤ) (place : ℕ → ℕ) where
   unfolding placed_sum sum_below
   placed-step i k = ap (λ n. sum_below integers n (λ j. f j *ℤ delta integers (place j) k)) (add-one i)
 
+  -- a coefficient 0 leaves the sum as it is
+  pub placed-nothing : (i k : ℕ) → f i ≡ pos 0 → placed_sum f place (i + 1) k ≡ placed_sum f place i k
+  placed-nothing i k e = placed-step i k ∙ ap (λ x. placed_sum f place i k +ℤ (x *ℤ delta integers (place i) k)) e
+      ∙ nothing integers (placed_sum f place i k) (delta integers (place i) k)
+    where
+      nothing : (R : Ring) (p d : R.Carrier) → R.add p (R.mul R.zero d) ≡ p
+      nothing R p d = simp (ring_laws, R)
+
   pub placed-all : (n k : ℕ) → placed_sum f place n k ≡ weighted_sum n f (λ i. delta integers (place i) k)
   unfolding placed_sum weighted_sum
   placed-all n k = refl

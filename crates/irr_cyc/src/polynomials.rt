@@ -99,8 +99,10 @@ fn add_turned(sums: &mut [i128], x: i128, shift: usize, ys: &[i128])
     }
     let n = sums.len();
     for j in 0..n {
-        let place = turned(shift, j, n);
-        sums[place] += x * ys[j];
+        if ys[j] != 0 {
+            let place = turned(shift, j, n);
+            sums[place] += x * ys[j];
+        }
     }
 }
 

@@ -21,9 +21,6 @@ fn take_from_class(coefficients: &mut [i128], top: usize, step: usize)
     ensures others { (i : ℕ) → i < length coefficients.old → i % step ≢ top % step → at coefficients.new i ≡ at coefficients.old i }
 {
     let coefficient = coefficients[top];
-    if coefficient == 0 {
-        return;
-    }
     let mut place = top % step;
     while place < coefficients.len() {
         coefficients[place] -= coefficient;
@@ -41,7 +38,7 @@ fn reduce_at(coefficients: &mut [i128], p: usize, base: usize)
 {
     let step = coefficients.len() / p;
     for top in 0..coefficients.len() {
-        if top / base % p == p - 1 {
+        if coefficients[top] != 0 && top / base % p == p - 1 {
             take_from_class(coefficients, top, step);
         }
     }

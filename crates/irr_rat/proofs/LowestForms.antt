@@ -2,6 +2,7 @@
 --   quotients_are_lowest    numbers over their greatest common divisor with the denominator
 --   lowest_divides          the form in lowest terms divides each other form
 --   three_gcd, three_lowest     the same of three numbers, step by step
+--   lowest_already           numbers whose greatest common divisor with the denominator is 1
 --   fits_of_lowest          and so it fits where another form fits
 use Rattle.std.proofs.Common.{◌≡◌, sym, ◌∙◌, ap, ap₂, subst, ℕ, zero, suc, ◌<◌, ◌≤◌, ◌*◌, ◌/◌, ◌^◌, ℤ, pos, negsuc, ◌*ℤ◌, neg_ℤ, FitsSigned, arith, unsigned_abs, mul-pos, List, [], ◌∷◌, get_or}
 use mathlib.Core.Path.{fun_ext}
@@ -47,6 +48,10 @@ quotients_are_lowest {n} a b g h k = (
     lowest d v w = Nat.dvd_antisymm (Nat.dvd_of_mul-dvd-mul_left d g-pos (subst (λ n. g * d ∣ n) (sym (Nat.mul-one g)) (k.greatest (g * d)
         (subst (λ n. g * d ∣ n) (Nat.mul-div_cancel' g k.denominator) (Nat.mul-dvd-mul_left d g v))
         (λ i. subst (λ n. g * d ∣ n) (sym (unsigned_abs-mul (pos g) (int_div (a i) (pos g))) ∙ ap unsigned_abs (mul-int_div g (a i) (k.numerators i))) (Nat.mul-dvd-mul_left d g (w i)))))) (Nat.one-dvd d)
+
+-- they are in lowest terms where this is 1
+pub lowest_already : {n : ℕ} (a : Fin n → ℤ) (b g : ℕ) → 0 < b → g ≡ 1 → IsCommonGcd a b g → AreLowest a b
+lowest_already a b g h one k = record { positive = h; lowest = λ d v w. Nat.dvd_antisymm (subst (λ m. d ∣ m) one (k.greatest d v w)) (Nat.one-dvd d) }
 
 -- the form in lowest terms divides each other form
 pub lowest_divides : {n : ℕ} (a c : Fin n → ℤ) (b d : ℕ) → AreLowest a b → 0 < d → ((i : Fin n) → ratio (a i) b ≡ ratio (c i) d)

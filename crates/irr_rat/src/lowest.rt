@@ -13,6 +13,9 @@ fn common_divisor(number: i128, den: u64) -> u64
     ensures greatest { IsGcd (unsigned_abs number) den result }
     ensures positive { 0 < result }
 {
+    if den == 1 {
+        return 1;
+    }
     gcd(den, (number.unsigned_abs() % den as u128) as u64)
 }
 
@@ -31,6 +34,9 @@ pub fn lowest_terms(num: [i128; 3], den: u64) -> ([i128; 3], u64)
 {
     let [x, y, z] = num;
     let common = common_divisor(x, common_divisor(y, common_divisor(z, den)));
+    if common == 1 {
+        return (num, den);
+    }
     (
         [
             quotient(x, common),

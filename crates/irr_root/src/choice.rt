@@ -65,6 +65,9 @@ fn target<S: Scalar>(
         → IfOk result (λ r. IsTarget c n m (S.value order.now.n r)) }
 {
     let sum: S = product_sum(alloc, t, p, members, positions, character, x, y)?;
+    if rows == 1 {
+        return Ok(sum);
+    }
     let factor: S = whole_of(alloc, order, lower_number(p - 1, rows))?;
     let product = factor.mul(alloc, &sum)?;
     Ok(product)
@@ -171,6 +174,9 @@ fn trace_at<S: Scalar>(
     let sum: S = target(
         alloc, t, inner, order, p, g, rows, members, positions, character, x, y,
     )?;
+    if sum.is_zero() {
+        return Ok(sum);
+    }
     let candidates: Vec<S> = trace_candidates(alloc, t, inner, order, p, positions, character, x)?;
     let solution = first_solution(alloc, factor, candidates.as_slice(), power, &sum)?;
     Ok(solution)

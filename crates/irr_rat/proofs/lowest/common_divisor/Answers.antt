@@ -1,9 +1,13 @@
 use Rattle.std.proofs.Common.{◌≡◌, ◌∙◌, ◌%◌, ap, subst, unsigned_abs}
-use Rattle.std.specs.Int.{IsGcd}
+use native.Mathlib.Nat as Nat
+use Rattle.std.specs.Int.{◌∣◌, IsGcd}
 use Rattle.std.proofs.lemmas.Int.{to_z-of_z}
 use Rattle.std.proofs.lemmas.Nat.Gcd.{IsGcd-from_mod}
 use Rattle.irr_number.proofs.Primes.{divisor_pos}
 use Rattle.irr_rat.proofs.lowest.common_divisor.Goals as goal
+
+pub returns-then-den-eq1-clause-greatest : goal.returns-then-den-eq1-clause-greatest
+returns-then-den-eq1-clause-greatest c = (Nat.one-dvd (unsigned_abs c.args.number), Nat.one-dvd c.args.den, λ d _ h. subst (λ n. d ∣ n) c.if-den-eq1.true h)
 
 pub returns-clause-greatest : goal.returns-clause-greatest
 returns-clause-greatest c =

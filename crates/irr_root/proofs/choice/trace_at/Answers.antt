@@ -1,6 +1,8 @@
 -- The trace of the extension solves the equation, and is a candidate.
-use Rattle.std.proofs.Common.{◌≡◌, refl, sym, subst, map, Contains}
+use Rattle.std.proofs.Common.{◌≡◌, ◌∙◌, ap, refl, sym, subst, ℕ, true, map, Contains, rules}
+use Rattle.irr_algebra.proofs.Rings.{ring_laws}
 use Rattle.irr_number.specs.Number.{Number, numbers}
+use Rattle.irr_root.proofs.Smalls.{is-true}
 use Rattle.irr_root.specs.RootSums.{AreSmall}
 use Rattle.irr_root.proofs.ChoiceLaws.{coset-lt, numbered, own-character, positions-below, solution-exists, trace-of}
 use Rattle.irr_root.proofs.choice.trace_at.Goals as goal
@@ -10,6 +12,25 @@ target-requires-clause-left g c = let e = c.requires.extension in coset-lt e.0 e
 
 pub target-requires-clause-right : goal.target-requires-clause-right
 target-requires-clause-right g c = let e = c.requires.extension in coset-lt e.0 e.3 c.args.y e.4
+
+nothing : (n : ℕ) (f s p : Number n) → s ≡ (numbers n).zero → (numbers n).mul f ((numbers n).mul s p) ≡ s
+nothing n f s p e =
+    let none : (numbers n).mul f ((numbers n).mul (numbers n).zero p) ≡ (numbers n).zero = simp (ring_laws, numbers n) in
+    ap (λ x. (numbers n).mul f ((numbers n).mul x p)) e ∙ none ∙ sym e
+
+pub returns-then-is_zero-clause-order : goal.returns-then-is_zero-clause-order
+returns-then-is_zero-clause-order g c = c.in_ok-sum.ensures.small.has_order
+
+pub returns-then-is_zero-clause-trace : goal.returns-then-is_zero-clause-trace
+returns-then-is_zero-clause-trace g c d n m s en em ew =
+    let N = c.args.order.now.n in
+    let value = g.S.Scalar.value in
+    let is : value N c.in_ok-sum.sum ≡ (numbers N).zero = subst (λ u. value u c.in_ok-sum.sum ≡ (numbers u).zero)
+    c.in_ok-sum.ensures.small.has_order
+    (c.is_zero.ensures.zero.0 (is-true c.is_zero.result (let e : c.is_zero.result ≡ true = search rules in e))) in
+    trace-of d n m s (value N c.args.factor.now) (value N c.args.power.now) (value N c.in_ok-sum.sum) (value N c.in_ok-sum.sum)
+    c.requires.factor_power ew (c.in_ok-sum.ensures.target d n m en em)
+    (nothing N (value N c.args.factor.now) (value N c.in_ok-sum.sum) (value N c.args.power.now) is)
 
 pub trace_candidates-requires-clause-positions : goal.trace_candidates-requires-clause-positions
 trace_candidates-requires-clause-positions g c = positions-below c.requires.choice
