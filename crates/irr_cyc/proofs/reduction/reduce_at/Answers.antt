@@ -26,11 +26,11 @@ loop-top-preserved c =
           (top-digit (length c.args.coefficients.now) c.args.p c.args.base c.requires.some c.requires.part c.loop-top.top w.if-top-base.true)
           (λ i li e. w.take_from_class.ensures.class i (omega (arith, len)) e) (λ i li n. w.take_from_class.ensures.others i (omega (arith, len)) n))
       | else-coefficients-top-ne0 w ↦ subst moved (sym w.coefficients-is) (elim w.else-coefficients-top-ne0.branch [
-          | else-coefficients-top-ne0-via-then-coefficients-top-ne0+else-top-base v ↦
-              moved-other (length c.args.coefficients.now) c.args.p c.args.base c.requires.some c.requires.part (at c.args.coefficients.now) (at c.loop-top.coefficients) (at c.loop-top.coefficients) c.loop-top.top c.loop-top-test.true c.loop-top.invariant v.if-top-base.false
-          | else-coefficients-top-ne0-via-else-coefficients-top-ne0 v ↦
-              let fits : FitsSigned w128 (at c.loop-top.coefficients c.loop-top.top) = search rules in
-              let nothing : at c.loop-top.coefficients c.loop-top.top ≡ pos 0 = sym (to_z-of_z w128 (at c.loop-top.coefficients c.loop-top.top) fits) ∙ ap (to_z w128) v.if-coefficients-top-ne0.false in
-              moved-nothing (length c.args.coefficients.now) c.args.p c.args.base c.requires.some c.requires.part (at c.args.coefficients.now) (at c.loop-top.coefficients) c.loop-top.top c.loop-top-test.true c.loop-top.invariant nothing
-        ])
+        | else-coefficients-top-ne0-via-then-coefficients-top-ne0+else-top-base v ↦
+            moved-other (length c.args.coefficients.now) c.args.p c.args.base c.requires.some c.requires.part (at c.args.coefficients.now) (at c.loop-top.coefficients) (at c.loop-top.coefficients) c.loop-top.top c.loop-top-test.true c.loop-top.invariant v.if-top-base.false
+        | else-coefficients-top-ne0-via-else-coefficients-top-ne0 v ↦
+            let fits : FitsSigned w128 (at c.loop-top.coefficients c.loop-top.top) = search rules in
+            let nothing : at c.loop-top.coefficients c.loop-top.top ≡ pos 0 = sym (to_z-of_z w128 (at c.loop-top.coefficients c.loop-top.top) fits) ∙ ap (to_z w128) v.if-coefficients-top-ne0.false in
+            moved-nothing (length c.args.coefficients.now) c.args.p c.args.base c.requires.some c.requires.part (at c.args.coefficients.now) (at c.loop-top.coefficients) c.loop-top.top c.loop-top-test.true c.loop-top.invariant nothing
+      ])
     ]
