@@ -4,15 +4,17 @@
 --   other                    the extension by the multiple of the matrix at the generator by one of them
 --   first_is, first_stands   the first extension and its matrix at the generator
 --   other_is, other_at       what it is, and its matrices
+--   other_first              the one for the root 1 is the first extension itself
 use Rattle.std.proofs.Common.{◌≡◌, sym, ◌∙◌, ap, subst, refl, ℕ, suc, ◌*◌, ◌/◌, ◌<◌}
 use native.Mathlib.Nat as Nat
 use Rattle.std.specs.Int.{◌∣◌}
 use Rattle.irr_algebra.specs.Ring.{Ring}
 use Rattle.irr_algebra.specs.Fin.{Fin, to_nat}
 use Rattle.irr_algebra.specs.Matrix.{Matrix, ◌·◌, scale}
-use Rattle.irr_algebra.proofs.Matrices.{scale-mul, scale-scale}
+use Rattle.irr_algebra.proofs.Matrices.{scale-mul, scale-one, scale-scale}
 use Rattle.irr_number.specs.Number.{numbers, root_power}
 use Rattle.irr_number.proofs.NumberField.{number_field}
+use Rattle.irr_number.proofs.RootPowers.{root_power-zero}
 use Rattle.irr_theory.specs.Extension.{matrix_power}
 use Rattle.irr_theory.specs.FactorSystem.{FactorSystem, Representation}
 use Rattle.irr_eigen.specs.Power.{power, IsPrimitiveRoot}
@@ -32,12 +34,15 @@ use Rattle.irr_clifford.proofs.Split.{index-positive, lifted_power-place, step}
 use Rattle.irr_level.specs.Part.{as_part}
 use Rattle.irr_level.proofs.OtherGenerator.{other_outside, same_power}
 use Rattle.irr_level.proofs.ScalarRoots.{same_number_power}
+use Rattle.irr_cyc.specs.declared.scalars.Scalar.{Ghosts}
+use Rattle.irr_rep.specs.declared.family.Family.{Family}
 use Rattle.irr_rep.specs.Twisted.{phase_table, place_count}
 use Rattle.irr_rep.proofs.Cycles.{cycle_over}
 use Rattle.irr_rep.proofs.ElementOrders.{place_order}
 use Rattle.irr_rep.proofs.PrimitiveRoots.{power-root_power, primitive_over}
 use Rattle.irr_climb.specs.declared.step.Step.{Step}
 use Rattle.irr_climb.specs.Extensions.{exponent_root}
+use Rattle.irr_climb.specs.Families.{IsRead}
 use Rattle.irr_climb.specs.Steps.{IsStep, large, small}
 
 module _ {R : Ring} {T : FactorSystem R} {H : Subgroup T} (Q : CyclicQuotient H) where
@@ -129,3 +134,16 @@ module _ {M : ℕ} {step : Step} (is : IsStep M step) where
         ≡ scale (numbers M) (exponent_root is (to_nat a) x) (E.at x)
     other_at a x = multiple_at is.quotient D (E.at is.quotient.generator) (step_roots.root a) E (other a) first_is (other_is a) x
         ∙ ap (λ c. scale (numbers M) c (E.at x)) (root_exponent a x)
+
+    pub other_first : {S : Type 0} {G : Ghosts S} (f : Family S G) → IsRead M (large is) E f
+        → (a : Fin is.quotient.index) → to_nat a ≡ 0 → IsRead M (large is) (other a) f
+    other_first f read a e = record {
+      size = read.size;
+      shape = read.shape;
+      matrices = λ x. read.matrices x ∙ sym (other_at a x ∙ ap (λ c. scale (numbers M) c (E.at x)) (none x) ∙ scale-one (E.at x));
+    }
+      where
+        none : (x : Fin (place_count step.outer)) → exponent_root is (to_nat a) x ≡ (numbers M).one
+        none x = ap (λ k. root_power M (k * to_nat (is.quotient.exponent x) * (M / is.quotient.index))) e
+            ∙ ap (λ k. root_power M (k * (M / is.quotient.index))) (Nat.zero-mul (to_nat (is.quotient.exponent x)))
+            ∙ ap (root_power M) (Nat.zero-mul (M / is.quotient.index)) ∙ root_power-zero M

@@ -85,9 +85,10 @@ pub(crate) fn all_extensions<S: Scalar>(
 {
     let first = first_extension(alloc, order, step, family, traces)?;
     let mut extensions = Vec::new(alloc);
-    for a in 0..step.index {
+    for a in 1..step.index {
         let next = other_extension(alloc, order, step, &first, a)?;
         extensions.push(next)?;
     }
+    extensions.insert(0, first)?;
     Ok(extensions)
 }
