@@ -1,12 +1,14 @@
 -- Sums of a character over sandwiches, term by term.
 --   root-small, item-is-small, sum-is-small     sizes of a root, of a number of a small row, and of a sum
 --   inner_terms, outer_terms        the terms of both sums
---   copy-small, copy-number         a number of the row itself, where the power of z is 1
+--   item-number                     a number of the row itself, where the power of z is 1
+--   zero-term                       a number 0 of the row adds nothing
+--   more-small, more-number         one more number is added
 --   turned-number                   the product of a power of z and a number of a row
 --   member-number, member-of        the number of a listed place, and the place of a number
 --   listed-turned                   a power of z times a number of the character
 --   SumSoFar                        the first terms added up, for all places with powers of z that x and y stand for
---   sums-none, sums-next, sums-all  no term, one more, and all
+--   sums-none, sums-next, sums-more no term, one more number, one more term
 use Rattle.std.proofs.Common.{◌≡◌, sym, ◌∙◌, ap, ap₂, subst, ℕ, ◌+◌, ◌*◌, ◌/◌, ◌<◌, ◌≤◌, List, get_or, map, slice_index, add-one, arith}
 use Rattle.std.specs.Prelude.{slice_index_or}
 use Rattle.std.specs.Int.{◌∣◌}
@@ -16,7 +18,8 @@ use Rattle.irr_algebra.specs.Fin.{Fin, to_nat}
 use Rattle.irr_algebra.specs.Listed.{sum_below}
 use Rattle.irr_algebra.proofs.Indices.{from_nat, to_nat-from_nat, to_nat-lt, to_nat_inj}
 use Rattle.irr_algebra.proofs.Listed.{sum_below-add_one, sum_below-zero}
-use Rattle.irr_algebra.proofs.Rings.{one-mul}
+use Rattle.irr_algebra.specs.Ring.{Ring}
+use Rattle.irr_algebra.proofs.Rings.{one-mul, ring_laws}
 use Rattle.irr_number.specs.Number.{Number, numbers, root_power}
 use Rattle.irr_number.proofs.RootPowers.{root_power-zero}
 use Rattle.irr_canonical.specs.RootSum.{IsRootSum}
@@ -78,26 +81,29 @@ module _ {S : Type 0} (order : S → ℕ) (value : (n : ℕ) → S → Number n)
       ∙ ap₂ (numbers n).mul t (item-value order value n h row small k l x is (from_nat h k l) (to_nat-from_nat h k l)
       ∙ ap (λ j. get_or (map (value n) row) j (numbers n).zero) (to_nat-from_nat h k l))
 
-  -- where the power of z is 1 the number serves itself
-  module _ (h : ℕ) (row : List S) (small : IsSmallRow order value n h row) (k : ℕ) (l : k < h) (x z : S) (is : x ≡ get_or row k x)
-      (v : value (order x) z ≡ value (order x) x) where
-    same-number : value n z ≡ value n x
-    same-number = subst (λ m. value m z ≡ value m x) (item-order order value n h row small k l x is) v
+  module _ (h : ℕ) (row : List S) (small : IsSmallRow order value n h row) (k : ℕ) (l : k < h) (x : S) (is : x ≡ get_or row k x) where
+    listed : value n x ≡ slice_index_or (map (value n) row) k (numbers n).zero
+    listed = item-value order value n h row small k l x is (from_nat h k l) (to_nat-from_nat h k l)
+        ∙ ap (λ j. get_or (map (value n) row) j (numbers n).zero) (to_nat-from_nat h k l)
 
-    pub copy-small : order z ≡ order x → IsSmall order value n 48 z
-    copy-small o = record {
-      has_order = o ∙ item-order order value n h row small k l x is;
-      few = subst (IsRootSum n 48 1) (sym same-number) (item-small order value n h row small k l x is);
-    }
-
-    pub copy-number : (e m : ℕ) → e ≡ 0
-        → value n z ≡ (numbers n).mul (root_power n (e * m)) (slice_index_or (map (value n) row) k (numbers n).zero)
-    copy-number e m zero =
+    -- where the power of z is 1 the number serves itself
+    pub item-number : (e m : ℕ) → e ≡ 0
+        → value n x ≡ (numbers n).mul (root_power n (e * m)) (slice_index_or (map (value n) row) k (numbers n).zero)
+    item-number e m zero =
         let y = slice_index_or (map (value n) row) k (numbers n).zero in
         let none : e * m ≡ 0 = ap (λ j. j * m) zero ∙ Nat.zero-mul m in
-        same-number ∙ item-value order value n h row small k l x is (from_nat h k l) (to_nat-from_nat h k l)
-        ∙ ap (λ j. get_or (map (value n) row) j (numbers n).zero) (to_nat-from_nat h k l)
-        ∙ sym (ap (λ j. (numbers n).mul (root_power n j) y) none ∙ ap (λ u. (numbers n).mul u y) (root_power-zero n) ∙ one-mul (numbers n) y)
+        listed ∙ sym (ap (λ j. (numbers n).mul (root_power n j) y) none ∙ ap (λ u. (numbers n).mul u y) (root_power-zero n) ∙ one-mul (numbers n) y)
+
+    -- and a number 0 adds nothing
+    pub zero-term : (e : ℕ) (s : Number n) → value (order x) x ≡ (numbers (order x)).zero
+        → s ≡ (numbers n).add s ((numbers n).mul (root_power n e) (slice_index_or (map (value n) row) k (numbers n).zero))
+    zero-term e s zero =
+        let o = item-order order value n h row small k l x is in
+        let none : value n x ≡ (numbers n).zero = subst (λ m. value m x ≡ (numbers m).zero) o zero in
+        sym (ap (λ y. (numbers n).add s ((numbers n).mul (root_power n e) y)) (sym listed ∙ none) ∙ nothing (numbers n) s (root_power n e))
+      where
+        nothing : (R : Ring) (s z : R.Carrier) → R.add s (R.mul z R.zero) ≡ s
+        nothing R s z = simp (ring_laws, R)
 
   added : (x y z : S) → order x ≡ n → value (order x) z ≡ (numbers (order x)).add (value (order x) x) (value (order x) y)
       → value n z ≡ (numbers n).add (value n x) (value n y)
@@ -109,6 +115,15 @@ module _ {S : Type 0} (order : S → ℕ) (value : (n : ℕ) → S → Number n)
     has_order = o ∙ h.has_order;
     few = subst (IsRootSum n (s + t) 1) (sym (added x y z h.has_order v)) (IsRootSum-add_same n h.few k.few);
   }
+
+  pub more-small : (x y z : S) → IsSmall order value n 48 y → order z ≡ order x
+      → value (order x) z ≡ (numbers (order x)).add (value (order x) x) (value (order x) y)
+      → (s : ℕ) → IsSmall order value n s x → IsSmall order value n (s + 48) z
+  more-small x y z k o v s h = sum-is-small s 48 x y z h k o v
+
+  pub more-number : (x y z : S) (w : Number n) → order x ≡ n → value (order x) z ≡ (numbers (order x)).add (value (order x) x) (value (order x) y)
+      → value n y ≡ w → value n z ≡ (numbers n).add (value n x) w
+  more-number x y z w o v e = added x y z o v ∙ ap ((numbers n).add (value n x)) e
 
   module _ {h : ℕ} (T : PhaseTable h) (i e j g s : ℕ) (f : (v : T.order ∣ n) → Lifted (phases_over T n v) → Lifted (phases_over T n v) → ℕ
       → Number n) where
@@ -136,6 +151,15 @@ module _ {S : Type 0} (order : S → ℕ) (value : (n : ℕ) → S → Number n)
           sum = λ w a b p q. added x y z now.small.has_order v ∙ ap₂ (numbers n).add (now.sum w a b p q) (is w a b p q)
               ∙ sym (sum_below-add_one (numbers n) k (f w a b));
         }
+
+    pub sums-more : (k : ℕ) (x z : S) → SumSoFar k x → IsSmall order value n (k * s + s) z
+        → ((v : T.order ∣ n) (a b : Lifted (phases_over T n v)) → IsTurned T n v i e a → IsTurned T n v j g b
+        → value n z ≡ (numbers n).add (value n x) (f v a b k)) → SumSoFar (k + 1) z
+    sums-more k x z now small is = record {
+      small = subst (λ m. IsSmall order value n m z) (sym (Nat.suc-mul k s) ∙ ap (λ m. m * s) (sym (add-one k))) small;
+      sum = λ w a b p q. is w a b p q ∙ ap (λ y. (numbers n).add y (f w a b k)) (now.sum w a b p q)
+          ∙ sym (sum_below-add_one (numbers n) k (f w a b));
+    }
 
     -- at most 48 terms
     pub sums-small : (k t : ℕ) (x : S) → SumSoFar k x → k ≤ 48 → 48 * s ≤ t → IsSmall order value n t x

@@ -1,5 +1,5 @@
 // The sums of a character that are products of traces of an extension.
-ghost use Rattle.std.specs.Prelude.{ℕ, ◌≡◌, ◌<◌, ◌≤◌, ◌*◌, ◌/◌, ◌⊎◌, length, map, slice_index, slice_index_or, All, IfOk};
+ghost use Rattle.std.specs.Prelude.{ℕ, ◌≡◌, ◌<◌, ◌≤◌, ◌+◌, ◌*◌, ◌/◌, ◌⊎◌, length, map, slice_index, slice_index_or, All, IfOk};
 ghost use Rattle.std.specs.Int.{◌∣◌};
 ghost use Rattle.irr_algebra.specs.Fin.{Fin, to_nat};
 ghost use Rattle.irr_number.specs.Number.{Number, numbers, root_power};
@@ -20,33 +20,39 @@ use irr_memory::Memory;
 use irr_rep::Twisted;
 use std::alloc::Global;
 
-// The power of z beside a place times the character at the place's position.
-fn turned_value<S: Scalar>(
+// A sum, and the power of z beside a place times the character at the place's position.
+fn with_value<S: Scalar>(
     alloc: Global,
     t: &Twisted,
     order: &Order,
     positions: &[u32],
     character: &[S],
+    sum: S,
     x: Turned,
 ) -> Result<S, Memory>
     requires admitted { S.admits order.now.n }
     requires divides { (phase_table t.now).order ∣ order.now.n }
     requires row { IsSmallRow S.order_of S.value order.now.n (length character.now) character.now }
     requires positions { All (λ k. k < length character.now) positions.now }
+    requires sum { IsSmall S.order_of S.value order.now.n 2304 sum }
     requires place { x.place < length positions.now }
-    ensures small { IfOk result (IsSmall S.order_of S.value order.now.n 48) }
-    ensures value { let n = order.now.n in IfOk result (λ c. S.value n c
-        ≡ (numbers n).mul (root_power n (x.exponent * (n / (phase_table t.now).order)))
-        (slice_index_or (map (S.value n) character.now) (slice_index positions.now x.place) (numbers n).zero)) }
+    ensures small { let n = order.now.n in (s : ℕ) → IsSmall S.order_of S.value n s sum → IfOk result (IsSmall S.order_of S.value n (s + 48)) }
+    ensures value { let n = order.now.n in IfOk result (λ r. S.value n r ≡ (numbers n).add (S.value n sum)
+        ((numbers n).mul (root_power n (x.exponent * (n / (phase_table t.now).order)))
+        (slice_index_or (map (S.value n) character.now) (slice_index positions.now x.place) (numbers n).zero))) }
 {
     let value = &character[positions[x.place as usize] as usize];
+    if value.is_zero() {
+        return Ok(sum);
+    }
     if x.exponent == 0 {
-        let copy = value.copy(alloc)?;
-        return Ok(copy);
+        let more = sum.add(alloc, value)?;
+        return Ok(more);
     }
     let turn: S = phase(alloc, t, order, x.exponent)?;
     let product = turn.mul(alloc, value)?;
-    Ok(product)
+    let more = sum.add(alloc, &product)?;
+    Ok(more)
 }
 
 // The values at the x n y n^-1, added up over the members n.
@@ -79,8 +85,7 @@ fn sandwich_sum<S: Scalar>(
     let mut sum = S::zero(alloc, order)?;
     for k in 0..members.len() {
         let z = sandwich(t, x, members[k], y);
-        let next = turned_value(alloc, t, order, positions, character, z)?;
-        sum = sum.add(alloc, &next)?;
+        sum = with_value(alloc, t, order, positions, character, sum, z)?;
     }
     Ok(sum)
 }

@@ -1,12 +1,12 @@
 -- One more value is added.
-use Rattle.std.proofs.Common.{◌∙◌, ◌<◌, ◌≤◌, length, map, slice_index, ℕ, arith, rules}
+use Rattle.std.proofs.Common.{◌∙◌, ap, ◌*◌, ◌<◌, ◌≤◌, length, map, slice_index, ℕ, arith, rules}
 use Rattle.std.proofs.lemmas.List.Elements.{All-get_or}
+use Rattle.irr_number.specs.Number.{numbers}
 use Rattle.irr_rep.specs.Twisted.{phase_table, place_count}
 use Rattle.irr_space.specs.PhaseTable.{phases_over}
 use Rattle.irr_extension.specs.Product.{sandwich}
 use Rattle.irr_root.specs.Sandwiches.{listed_member}
-use Rattle.irr_root.proofs.SandwichSums.{listed-turned, member-number, inner_terms, sums-next, sums-none, sums-small}
-use Rattle.irr_root.proofs.Smalls.{denominators_of_small, sizes_of_small}
+use Rattle.irr_root.proofs.SandwichSums.{listed-turned, member-number, inner_terms, sums-more, sums-none, sums-small}
 use Rattle.irr_root.proofs.products.sandwich_sum.Goals as goal
 
 pub loop-k-init : goal.loop-k-init
@@ -16,31 +16,14 @@ loop-k-init g c =
     (inner_terms (phase_table c.args.t.now) n c.args.members.now c.args.positions.now (map (g.S.Scalar.value n) c.args.character.now))
     c.in_ok-sum.sum c.in_ok-sum.ensures.order c.in_ok-sum.ensures.value
 
-pub add-requires-clause-denominators : goal.add-requires-clause-denominators
-add-requires-clause-denominators g c =
-    let order = g.S.Scalar.order_of in
-    let value = g.S.Scalar.value in
+pub with_value-requires-clause-sum : goal.with_value-requires-clause-sum
+with_value-requires-clause-sum g c =
     let n = c.args.order.now.n in
     let l : c.loop-k.k < length c.args.members.now = search rules in
     let m : length c.args.members.now ≤ 48 = c.requires.few in
-    denominators_of_small order value (λ x. g.met.S.Scalar.admitted_positive (order x) (g.met.S.Scalar.order_admitted x))
-    (λ x. g.met.S.Scalar.admitted_limited (order x) (g.met.S.Scalar.order_admitted x)) n 2304 48 c.loop-k.sum c.in_ok-next.next
-    (sums-small order value n (phase_table c.args.t.now) c.args.x.place c.args.x.exponent c.args.y.place c.args.y.exponent 48
-    (inner_terms (phase_table c.args.t.now) n c.args.members.now c.args.positions.now (map (value n) c.args.character.now))
-    c.loop-k.k 2304 c.loop-k.sum c.loop-k.invariant (omega (arith, l, m)) (omega arith)) c.in_ok-next.ensures.small
-
-pub add-requires-clause-sizes : goal.add-requires-clause-sizes
-add-requires-clause-sizes g c =
-    let order = g.S.Scalar.order_of in
-    let value = g.S.Scalar.value in
-    let n = c.args.order.now.n in
-    let l : c.loop-k.k < length c.args.members.now = search rules in
-    let m : length c.args.members.now ≤ 48 = c.requires.few in
-    sizes_of_small order value (λ x. g.met.S.Scalar.admitted_positive (order x) (g.met.S.Scalar.order_admitted x))
-    (λ x. g.met.S.Scalar.admitted_limited (order x) (g.met.S.Scalar.order_admitted x)) n 2304 48 c.loop-k.sum c.in_ok-next.next
-    (sums-small order value n (phase_table c.args.t.now) c.args.x.place c.args.x.exponent c.args.y.place c.args.y.exponent 48
-    (inner_terms (phase_table c.args.t.now) n c.args.members.now c.args.positions.now (map (value n) c.args.character.now))
-    c.loop-k.k 2304 c.loop-k.sum c.loop-k.invariant (omega (arith, l, m)) (omega arith)) c.in_ok-next.ensures.small (omega arith) (omega arith)
+    sums-small g.S.Scalar.order_of g.S.Scalar.value n (phase_table c.args.t.now) c.args.x.place c.args.x.exponent c.args.y.place c.args.y.exponent 48
+    (inner_terms (phase_table c.args.t.now) n c.args.members.now c.args.positions.now (map (g.S.Scalar.value n) c.args.character.now))
+    c.loop-k.k 2304 c.loop-k.sum c.loop-k.invariant (omega (arith, l, m)) (omega arith)
 
 pub loop-k-preserved : goal.loop-k-preserved
 loop-k-preserved g c =
@@ -59,10 +42,9 @@ loop-k-preserved g c =
     let m = listed_member T members k in
     let number = member-number T.start (slice_index members k)
     (All-get_or (λ (a : ℕ). a < place_count c.args.t.now) members k 0 l c.requires.members) in
-    sums-next order value n T x.place x.exponent y.place y.exponent 48
-    (inner_terms T n members positions (map (value n) row)) k c.loop-k.sum c.in_ok-next.next c.in_ok-sum-2.sum
-    c.loop-k.invariant c.in_ok-next.ensures.small
-    (λ v a b p q. c.in_ok-next.ensures.value ∙ listed-turned T n v positions (map (value n) row) z.place z.exponent
-    (sandwich (phases_over T n v) a m b)
-    (c.sandwich-z.ensures.turned n v a b m p q number))
-    c.in_ok-sum-2.ensures.order c.in_ok-sum-2.ensures.value
+    sums-more order value n T x.place x.exponent y.place y.exponent 48
+    (inner_terms T n members positions (map (value n) row)) k c.loop-k.sum c.in_ok-sum-2.sum
+    c.loop-k.invariant (c.in_ok-sum-2.ensures.small (k * 48) c.loop-k.invariant.small)
+    (λ v a b p q. c.in_ok-sum-2.ensures.value ∙ ap ((numbers n).add (value n c.loop-k.sum))
+    (listed-turned T n v positions (map (value n) row) z.place z.exponent (sandwich (phases_over T n v) a m b)
+    (c.sandwich-z.ensures.turned n v a b m p q number)))
