@@ -63,6 +63,9 @@ fn remainder(number: i128, n: u32) -> u32
     requires { 0 < n }
     ensures { pos result ≡ int_rem_euclid number (pos n) }
 {
+    if number == 0 {
+        return 0;
+    }
     number.rem_euclid(i128::from(n)) as u32
 }
 
@@ -82,6 +85,9 @@ fn divided(number: i128, den: u64) -> i128
     requires small { unsigned_abs number ≤ 2 ^ 110 }
     ensures { result ≡ int_div_euclid number (pos den) }
 {
+    if number == 0 {
+        return 0;
+    }
     number.div_euclid(i128::from(den))
 }
 
