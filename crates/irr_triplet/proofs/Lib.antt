@@ -1,10 +1,5 @@
 pub mod TermTexts
-pub mod TermShapes
-pub mod TermReading
-pub mod ConstantReading
-pub mod ComponentReading
-pub mod TripletReading
-pub mod UniqueTriplets
+pub mod TripletRows
 pub mod TermTokens
 pub mod SlotReading
 pub mod UsedSlots

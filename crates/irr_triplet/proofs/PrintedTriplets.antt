@@ -6,7 +6,9 @@
 --   written_at at ps   the component of the terms ps from the place at on
 --   AreOf ts ps        the terms ts are written as the terms ps print
 --   pieces x y z a b   the terms of a row
+--   terms_of x y z a b  their texts with their signs
 --   printed_read       the text of an operation that can be read writes it
+--   printed_unique     so it is the text of no other operation that can be read
 use Rattle.std.proofs.Common.{◌≡◌, ◌≢◌, refl, sym, ◌∙◌, ap, ap₂, subst, ℕ, zero, suc, ◌<◌, ◌≤◌, ◌+◌, ◌^◌, ℤ, pos, negsuc, Bool, true, false, List, [], ◌∷◌, ◌++◌, length, append_assoc, append-nil, Option, None, Some, arith, nat_eq}
 use Rattle.std.specs.Prelude.{if◌then◌else◌}
 use Rattle.std.specs.Int.RustNames.{unsigned_abs}
@@ -35,11 +37,13 @@ use Rattle.irr_triplet.specs.declared.term.Letter.{Letter}
 use Rattle.irr_triplet.specs.declared.term.Letter.TheVariants as letters
 use Rattle.irr_triplet.specs.Letters.{letter_byte}
 use Rattle.irr_triplet.specs.Readable.{IsReadable}
+use Rattle.irr_triplet.specs.Terms.{terms_text}
 use Rattle.irr_triplet.specs.WrittenTriplet.{Body, Term, WrittenComponent, WrittenTriplet, letter_slot, slot_of, body_tokens, later_tokens, component_tokens, triplet_tokens, Lacks, AreDistinct, IsComponent}
 use Rattle.irr_triplet.specs.WrittenTriplet.Body.{lettered, constant}
 use Rattle.irr_triplet.specs.TripletFault.{terms, same_slot, term_at, size_value, body_coefficient, coefficient_of, coefficient, body_constant, constant_of, constant_value, body_denominators, denominators, body_numbers, numbers, IsRowOf, IsTextOf}
-use Rattle.irr_triplet.proofs.ComponentReading.{terms_of, terms_text-terms_of}
-use Rattle.irr_triplet.proofs.TripletReading.{RowForm, row_form, triplet_text-parts}
+use Rattle.irr_triplet.proofs.OneTriplet.{operation_unique}
+use Rattle.irr_triplet.proofs.TermTexts.{regroup}
+use Rattle.irr_triplet.proofs.TripletRows.{RowForm, row_form, triplet_text-parts}
 
 data Piece : Type 0 where
   letter : Bool → Letter → ℕ → Piece
@@ -362,6 +366,13 @@ fraction-text (pos zero) b = refl
 fraction-text (pos (suc n)) b = ap (λ cs. 43 ∷ cs) (sym (append-nil (fraction_text (pos (suc n)) b)))
 fraction-text (negsuc n) b = minus_front (nat_eq b 1) (decimal (suc n)) (decimal (suc n) ++ 47 ∷ decimal b) ∙ ap (λ cs. 45 ∷ cs) (sym (append-nil (fraction_text (pos (suc n)) b)))
 
+abbrev terms_of : (x y z a : ℤ) → ℕ → List ℕ
+terms_of x y z a b = letter_text x 120 ++ (letter_text y 121 ++ (letter_text z 122 ++ signed_fraction a b))
+
+terms_text-terms_of : (x y z a : ℤ) (b : ℕ) → sum_text (terms_of x y z a b) ≡ terms_text x y z a b
+unfolding terms_text
+terms_text-terms_of x y z a b = ap sum_text (regroup (letter_text x 120) (letter_text y 121) (letter_text z 122) (signed_fraction a b))
+
 pieces-text : (x y z a : ℤ) (b : ℕ) → terms_of x y z a b ≡ signed_text (pieces x y z a b)
 pieces-text x y z a b = ap (λ t. letter_text x 120 ++ (letter_text y 121 ++ (letter_text z 122 ++ t))) (fraction-text a b)
     ∙ ap (λ t. letter_text x 120 ++ (letter_text y 121 ++ t)) (letter-text z letters.Z (fraction_pieces a b))
@@ -587,3 +598,6 @@ three_read g ps qs rs p q r h = record {
 pub printed_read : (g : Operation) → IsReadable g → IsTextOf (triplet_text g) g
 printed_read g h = three_read g (form_pieces g first (row_form g h first)) (form_pieces g (next first) (row_form g h (next first))) (form_pieces g (next (next first)) (row_form g h (next (next first))))
     (printed_row g first (row_form g h first)) (printed_row g (next first) (row_form g h (next first))) (printed_row g (next (next first)) (row_form g h (next (next first)))) h
+
+pub printed_unique : (g h : Operation) → IsReadable g → IsReadable h → triplet_text g ≡ triplet_text h → g ≡ h
+printed_unique g h r s e = operation_unique (triplet_text g) g h (printed_read g r) (subst (λ text. IsTextOf text h) (sym e) (printed_read h s))

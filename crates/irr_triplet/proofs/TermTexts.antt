@@ -130,7 +130,7 @@ alone (pos zero) b low = ap (fraction_text (pos zero)) (low.lowest b (Nat.dvd_re
 alone (pos (suc n)) b low = refl
 alone (negsuc n) b low = minus_stays (nat_eq b 1) (decimal (suc n)) (decimal (suc n) ++ 47 ∷ decimal b)
 
-pub terms-none : (x y z a : ℤ) (b : ℕ) → IsLowest a b → x ≡ pos 0 → y ≡ pos 0 → z ≡ pos 0 → fraction_text a b ≡ terms_text x y z a b
+terms-none : (x y z a : ℤ) (b : ℕ) → IsLowest a b → x ≡ pos 0 → y ≡ pos 0 → z ≡ pos 0 → fraction_text a b ≡ terms_text x y z a b
 unfolding terms_text letter_text
 terms-none x y z a b low e f g = alone a b low ∙ ap₂ (λ c d. terms_text c d (pos 0) a b) (sym e) (sym f) ∙ ap (λ c. terms_text x y c a b) (sym g)
 

@@ -1,6 +1,5 @@
 pub mod Letters
 pub mod Terms
-pub mod Shapes
 pub mod Readable
 pub mod Rows
 pub mod WrittenTriplet

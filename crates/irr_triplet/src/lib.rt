@@ -4,8 +4,6 @@
 mod component;
 mod laws;
 mod print;
-mod printed;
-mod read;
 mod reading;
 mod shape;
 mod slots;
@@ -15,7 +13,6 @@ mod written;
 
 pub use laws::{one_operation_is_written, printed_triplets_are_read, unique_triplets};
 pub use print::print_triplet;
-pub use printed::printed_triplet;
 pub use reading::{COEFFICIENT_LIMIT, TripletError, read_triplet};
 
 #[cfg(test)]

@@ -2,7 +2,7 @@ use Rattle.std.proofs.Common.{◌∙◌, ap}
 use Rattle.irr_algebra.specs.Fin.Fin.{first, next}
 use Rattle.irr_space.specs.Operation.{component}
 use Rattle.irr_seitz.specs.OperationMeaning.{operation}
-use Rattle.irr_triplet.proofs.TripletReading.{rows_of}
+use Rattle.irr_triplet.proofs.TripletRows.{rows_of}
 use Rattle.irr_triplet.proofs.values.operation_of.Goals as goal
 
 pub returns-clause-rows : goal.returns-clause-rows
