@@ -4,6 +4,4 @@ pub mod Vectors
 pub mod Lexicographic
 pub mod Reduction
 pub mod Fractions
-pub mod FractionTexts
-pub mod PrintedFractions
 pub mod CommonDenominators

@@ -1,7 +1,4 @@
-use crate::{
-    Fraction, Ratio, Vec3, gcd, lcm_checked, over_common_denominator, printed_fraction,
-    split_around,
-};
+use crate::{Fraction, Ratio, Vec3, gcd, lcm_checked};
 use std::cmp::Ordering;
 
 #[test]
@@ -44,53 +41,7 @@ fn fractions_over_two_types(rt: HostRuntime) {
 }
 
 #[test]
-fn fractions_are_read_as_they_print(rt: HostRuntime) {
-    for (text, value) in [
-        ("0", Some((0, 1))),
-        ("-3/4", Some((-3, 4))),
-        ("100000", Some((100_000, 1))),
-        ("", None),
-        ("2/4", None),
-        ("3/1", None),
-        ("1/0", None),
-        ("01/2", None),
-        ("+1", None),
-        ("100001", None),
-    ] {
-        let read = printed_fraction(text.as_bytes()).map(|x| (x.num, x.den));
-        assert!(rt; read == value, "at {text}");
-    }
-    assert!(rt; split_around(b"x/y/z", b'/') == Some((&b"x"[..], &b"y/z"[..])));
+fn fractions_in_lowest_terms(rt: HostRuntime) {
     let half = Fraction::new(-2, 4);
     assert!(rt; half.num == -1 && half.den == 2);
-}
-
-#[test]
-fn components_over_their_least_common_denominator(rt: HostRuntime) {
-    for (x, y, z, vector) in [
-        ("1/4", "-5/6", "0", Some(([3, -10, 0], 12))),
-        ("3", "1", "2", Some(([3, 1, 2], 1))),
-        (
-            "1/1000",
-            "1/100",
-            "1/100000",
-            Some(([100, 1000, 1], 100_000)),
-        ),
-        ("1/1000", "1/1001", "0", None),
-    ] {
-        let components = (
-            printed_fraction(x.as_bytes()),
-            printed_fraction(y.as_bytes()),
-            printed_fraction(z.as_bytes()),
-        );
-        if let (Some(x), Some(y), Some(z)) = components {
-            let found = over_common_denominator(x, y, z).map(|v| {
-                let num = v.num;
-                (num, v.den)
-            });
-            assert!(rt; found == vector, "{x:?} {y:?} {z:?}");
-        } else {
-            assert!(rt; false, "no fractions");
-        }
-    }
 }
