@@ -1,5 +1,5 @@
-mod Enumerations
-mod OneTable
+pub mod Enumerations
+pub mod OneTable
 pub mod Along
 mod TrialOrder
 mod Readings

@@ -1,25 +1,17 @@
 -- What holds of a group of operations holds of each with the same operations.
---   order_along, little_along, numbering_along, table_along     orders, little groups, their numberings and tables
---   reduced_along, arms_along, star_along                       reduced wave vectors, arms and stars
+--   reduced_along, arms_along, star_along      reduced wave vectors, arms and stars
 use Rattle.std.proofs.Common.{◌↔◌, ℕ}
 use Rattle.irr_algebra.specs.Fin.{Fin}
-use Rattle.irr_space.specs.Operation.{Operation, WaveVector, translation}
-use Rattle.irr_space.specs.Reciprocal.{Sign, IsReciprocal, IsReduced, IsPeriod, IsOrder, times}
-use Rattle.irr_space.specs.CanonicalOperation.{IsNumbering}
-use Rattle.irr_space.specs.Star.{IsInLittleGroup, Carries, IsInStar, IsArms}
-use Rattle.irr_space.specs.PhaseTable.{PhaseTable, IsTableOf}
-use Rattle.irr_close.proofs.Along.{canonical_along, exponent_along, numbering_along as all_along}
-use Rattle.irr_text.specs.StarText.{StarContent, IsStarOf}
+use Rattle.irr_space.specs.Operation.{Operation, WaveVector}
+use Rattle.irr_space.specs.Reciprocal.{IsReduced, Sign}
+use Rattle.irr_space.specs.Star.{Carries, IsArms, IsInStar}
+use Rattle.irr_close.proofs.Along.{numbering_along as all_along}
+use Rattle.irr_text.specs.StarText.{IsStarOf, StarContent}
+use Rattle.irr_check.proofs.Along.{numbering_along, reciprocal_along, table_along}
 
 module _ (G H : Operation → Type 0) (same : (g : Operation) → G g ↔ H g) where
-  reciprocal_along : (k : WaveVector) → IsReciprocal G k → IsReciprocal H k
-  reciprocal_along k r = record { is_whole = λ t m. r.is_whole t ((same (translation t)).1 m) }
-
-  pub little_along : (k : WaveVector) (g : Operation) → IsInLittleGroup G k g → IsInLittleGroup H k g
-  little_along k g l = record { member = (same g).0 l.member; keeps = reciprocal_along _ l.keeps }
-
   carries_along : (g : Operation) (k w : WaveVector) → Carries G g k w → Carries H g k w
-  carries_along g k w c = record { image = c.image; turned_back = c.turned_back; equivalent = reciprocal_along _ c.equivalent }
+  carries_along g k w c = record { image = c.image; turned_back = c.turned_back; equivalent = reciprocal_along G H same _ c.equivalent }
 
   in_star_along : (k w : WaveVector) → IsInStar G k w → IsInStar H k w
   in_star_along k w s = record {
@@ -31,40 +23,6 @@ module _ (G H : Operation → Type 0) (same : (g : Operation) → G g ↔ H g) w
 module _ (G H : Operation → Type 0) (same : (g : Operation) → G g ↔ H g) where
   back : (g : Operation) → H g ↔ G g
   back g = ((same g).1, (same g).0)
-
-  period_along : (k : WaveVector) (q : ℕ) → IsPeriod G k q → IsPeriod H k q
-  period_along k q p = record {
-    positive = p.positive;
-    reciprocal = reciprocal_along G H same (times q k) p.reciprocal;
-    least = λ n l r. p.least n l (reciprocal_along H G back (times n k) r);
-  }
-
-  pub order_along : (k : WaveVector) (n : ℕ) → IsOrder G k n → IsOrder H k n
-  order_along k n o = record {
-    exponent = o.exponent;
-    period = o.period;
-    is_exponent = exponent_along G H same o.exponent o.is_exponent;
-    is_period = period_along k o.period o.is_period;
-    is_product = o.is_product;
-  }
-
-  pub numbering_along : (k : WaveVector) {h : ℕ} (ops : Fin h → Operation) → IsNumbering G (IsInLittleGroup G k) ops
-      → IsNumbering H (IsInLittleGroup H k) ops
-  numbering_along k ops n = record {
-    canonical = λ i. canonical_along G H same (ops i) (n.canonical i);
-    member = λ i. little_along G H same k (ops i) (n.member i);
-    all = λ g c m. n.all g (canonical_along H G back g c) (little_along H G back k g m);
-    ordered = n.ordered;
-  }
-
-  pub table_along : (s : Sign) (k : WaveVector) {h : ℕ} (ops : Fin h → Operation) (T : PhaseTable h) → IsTableOf s G k ops T → IsTableOf s H k ops T
-  table_along s k ops T t = record {
-    is_order = order_along k T.order t.is_order;
-    quotient = t.quotient;
-    is_translation = λ i j. (same (translation (t.quotient i j))).0 (t.is_translation i j);
-    products = t.products;
-    phases = t.phases;
-  }
 
   pub reduced_along : (k r : WaveVector) → IsReduced G k r → IsReduced H k r
   reduced_along k r e = record {
@@ -96,8 +54,8 @@ module _ (G H : Operation → Type 0) (same : (g : Operation) → G g ↔ H g) w
     are_arms = arms_along k t.canonical t.arm t.number t.are_arms;
     places = t.places;
     operation = t.operation;
-    numbering = numbering_along k t.operation t.numbering;
+    numbering = numbering_along G H same k t.operation t.numbering;
     table = t.table;
-    is_table = table_along s k t.operation t.table t.is_table;
+    is_table = table_along G H same s k t.operation t.table t.is_table;
     content = t.content;
   }

@@ -20,19 +20,15 @@ use Rattle.irr_cocycle.specs.SpaceGroupLaws.{IsGroup}
 use Rattle.irr_cocycle.proofs.Operations.{dot-sub, dot-times}
 use Rattle.irr_cocycle.proofs.Reciprocals.{equivalent_sym}
 use Rattle.irr_close.specs.Limits.{operations}
-use Rattle.irr_close.specs.Canonical.{AreCanonical}
 use Rattle.irr_close.specs.Standing.{StandFor}
 use Rattle.irr_close.specs.StandsFor.{stands_for}
 use Rattle.irr_close.specs.declared.group.Group.{Group}
 use Rattle.irr_close.proofs.Along.{centrings_along}
 use Rattle.irr_close.proofs.Lattice.{invertible_generated, invertible_operations, inverse_operation}
 use Rattle.irr_close.proofs.Unimodular.{are_invertible}
-use Rattle.irr_close.proofs.Untruncated.{untruncated}
+use Rattle.irr_little.proofs.Spaces.{form_of}
 use Rattle.irr_top.specs.GroupOf.{IsGroupOf, group_of}
 use Rattle.irr_top.proofs.Numerators.{readable_unimodular}
-
-pub form_of : (group : Group) → AreCanonical group.ops.items group.centrings.items
-form_of group = untruncated group.ops.items group.centrings.items group.form
 
 module _ (group : Group) (gens : List Op) (h : IsGroupOf group gens) where
   pub is_group : IsGroup (group_of gens)

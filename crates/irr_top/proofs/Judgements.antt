@@ -17,12 +17,11 @@ use Rattle.irr_check.specs.Verdict.{HaveSteps, IsCompleteReport, IsVerdict}
 use Rattle.irr_check.specs.Verdict.IsVerdict.{other_order, other_operations, of_families}
 use Rattle.irr_check.specs.declared.verdict.Verdict.{Verdict}
 use Rattle.irr_check.specs.declared.verdict.Verdict.TheVariants.{Yes}
-use Rattle.irr_check.proofs.Along.{complete_along, steps_along, verdict_along}
+use Rattle.irr_check.proofs.Along.{complete_along, order_along, steps_along, verdict_along}
 use Rattle.irr_check.proofs.OneVerdict.{one_verdict}
 use Rattle.irr_top.specs.Asked.{order_limit}
 use Rattle.irr_top.specs.GroupOf.{IsGroupOf, group_of}
 use Rattle.irr_top.specs.Judged.{IsJudged}
-use Rattle.irr_top.proofs.Along.{order_along}
 
 module _ (group : Group) (gens : List Op) (is : IsGroupOf group gens) (r : ReportContent) where
   abbrev G : Operation → Type 0

@@ -16,5 +16,4 @@ pub mod RequestWords
 pub mod FirstPieces
 pub mod FirstArms
 pub mod StarTexts
-pub mod Enumerations
 pub mod OneStar

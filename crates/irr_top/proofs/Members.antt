@@ -15,14 +15,13 @@ use Rattle.irr_algebra.specs.Fin.{Fin}
 use Rattle.irr_algebra.proofs.Indices.{from_nat, to_nat-from_nat, to_nat-lt}
 use Rattle.irr_space.specs.PhaseTable.{PhaseTable, phases_at}
 use Rattle.irr_cyc.specs.declared.scalars.Scalar.{Ghosts}
-use Rattle.irr_mat.specs.declared.matrices.Mat.{Mat}
-use Rattle.irr_mat.specs.Entries.{first_order}
 use Rattle.irr_mat.specs.Size.{TraceFits}
 use Rattle.irr_rep.specs.declared.family.Family.{Family}
 use Rattle.irr_rep.specs.Family.{HasShape, matrix_at}
 use Rattle.irr_climb.specs.Families.{IsRead}
 use Rattle.irr_climb.specs.Lists.{IsSmallList}
 use Rattle.irr_climb.specs.Sizes.{size_bound}
+use Rattle.irr_climb.proofs.MemberTraces.{shape_order}
 use Rattle.irr_top.specs.Members.{IsMember}
 
 bound_within : (h : ℕ) → h ≤ 48 → size_bound h ≤ 18200
@@ -60,11 +59,6 @@ module _ {S : Type 0} {G : Ghosts S} where
       (to_nat-from_nat s.list.count k inside) (s.read.read at d) in
       record { shape = subst (λ n. HasShape T.order h n f.mats.items) (sym r.size) r.shape; sized = s.sized k d l }
 
-  one_order : (m n : ℕ) (mats : List (Mat S G)) → 0 < length mats → All (λ x. first_order G.order_of x.entries.items ≡ m) mats
-      → All (λ x. first_order G.order_of x.entries.items ≡ n) mats → n ≡ m
-  one_order m n [] l a b = absurd (omega arith)
-  one_order m n (x ∷ mats) l a b = sym (b 0 x l) ∙ a 0 x l
-
   module _ (n h : ℕ) (f : Family S G) (is : IsMember n h f) (order : n ≤ 12000) (places : h ≤ 48) (dim : f.dim < 2 ^ 32) where
     trace_fits : (i : Fin h) → TraceFits n (matrix_at n f.dim f.mats.items i)
     trace_fits i =
@@ -80,15 +74,15 @@ module _ {S : Type 0} {G : Ghosts S} where
         }
 
     pub traces_fit : (m g : ℕ) → HasShape m g f.dim f.mats.items → (i : Fin g) → TraceFits m (matrix_at m f.dim f.mats.items i)
-    traces_fit m g shape i = at_count g (sym is.shape.count ∙ shape.count) i
+    traces_fit m g shape i = subst (λ k. TraceFits k (matrix_at k f.dim f.mats.items i))
+        (shape_order n h f.dim m g f.dim f.mats.items is.shape shape some_places)
+        (subst (λ k. (j : Fin k) → TraceFits n (matrix_at n f.dim f.mats.items j)) same_places trace_fits i)
       where
-        at_order : 0 < length f.mats.items → (i : Fin h) → TraceFits m (matrix_at m f.dim f.mats.items i)
-        at_order l j = subst (λ k. TraceFits k (matrix_at k f.dim f.mats.items j))
-            (one_order m n f.mats.items l shape.orders is.shape.orders) (trace_fits j)
+        same_places : h ≡ g
+        same_places = sym is.shape.count ∙ shape.count
 
-        at_count : (g : ℕ) → h ≡ g → (i : Fin g) → TraceFits m (matrix_at m f.dim f.mats.items i)
-        at_count g e = subst (λ k. (i : Fin k) → TraceFits m (matrix_at m f.dim f.mats.items i)) e
-            (λ j. at_order (let t = to_nat-lt j in let s = is.shape.count in omega arith) j)
+        some_places : 0 < h
+        some_places = let l = to_nat-lt i in let e = same_places in omega arith
 
 -- one item more at the end of a list, at each default
 pub pushed : {A : Type 0} (P : A → ℕ → A → Type 0) (xs ys : List A) (x : A) (k : ℕ) → length xs ≡ k → ys ≡ xs ++ x ∷ []

@@ -1,12 +1,11 @@
 -- Words and bytes ask for one status.
---   order_unique       a wave vector has one order
 --   Agree s t          s and t are one status, or neither tells of a limit, a fault or a verdict of no
 --   asked_status       what is asked for agrees
 --   asked_one          and is one status, where tables have steps
-use Rattle.std.proofs.Common.{◌≡◌, ◌≢◌, refl, sym, ◌∙◌, ap, ap₂, subst, ℕ, ◌+◌, ◌<◌, ◌≤◌, ◌*◌, ◌⊎◌, inl, inr, List, Option, Some, None, length, arith}
-use Rattle.irr_space.specs.Operation.{Operation, WaveVector}
-use Rattle.irr_space.specs.SpaceGroup.{Generated, IsExponent}
-use Rattle.irr_space.specs.Reciprocal.{IsOrder, IsPeriod}
+use Rattle.std.proofs.Common.{◌≡◌, ◌≢◌, refl, sym, ◌∙◌, ap, ap₂, subst, ℕ, ◌+◌, ◌<◌, ◌≤◌, ◌⊎◌, inl, inr, List, Option, Some, None, length, arith}
+use Rattle.irr_space.specs.Operation.{WaveVector}
+use Rattle.irr_space.specs.SpaceGroup.{Generated}
+use Rattle.irr_space.specs.Reciprocal.{IsOrder}
 use Rattle.irr_space.specs.Reciprocal.Sign.{minus}
 use Rattle.irr_text.specs.ReportText.{ReportContent}
 use Rattle.irr_seitz.specs.declared.op.Op.{Op}
@@ -24,6 +23,7 @@ use Rattle.irr_close.specs.declared.CloseError.{CloseError}
 use Rattle.irr_close.specs.declared.CloseError.TheVariants.{Rotations as many_rotations, Denominator as large_denominator, Centrings as many_centrings, Memory as no_memory}
 use Rattle.irr_check.specs.declared.verdict.Verdict.{Verdict}
 use Rattle.irr_check.specs.declared.verdict.Verdict.TheVariants.{No, Yes}
+use Rattle.irr_check.proofs.OneTable.{order_unique}
 use Rattle.irr_top.specs.GroupOf.{group_of}
 use Rattle.irr_top.specs.Judged.{IsJudged}
 use Rattle.irr_top.specs.VerdictText.{verdict_status}
@@ -38,17 +38,6 @@ use Rattle.irr_top.specs.declared.status.Kind.TheVariants.{Bytes, Report, Rotati
 use Rattle.irr_top.proofs.LineNumbers.{line_count_once}
 use Rattle.irr_top.proofs.Judgements.{judged_once}
 use Rattle.irr_top.proofs.SameGenerators.{AreSame, same_placed, operations_same, refusal_along, accepted_along}
-
-module _ (G : Operation → Type 0) where
-  exponent_unique : (d e : ℕ) → IsExponent G d → IsExponent G e → d ≡ e
-  exponent_unique d e p q = let a : d ≤ e = p.least e q.positive q.power in let b : e ≤ d = q.least d p.positive p.power in omega arith
-
-  period_unique : (k : WaveVector) (d e : ℕ) → IsPeriod G k d → IsPeriod G k e → d ≡ e
-  period_unique k d e p q = let a : d ≤ e = p.least e q.positive q.reciprocal in let b : e ≤ d = q.least d p.positive p.reciprocal in omega arith
-
-  pub order_unique : (k : WaveVector) (m n : ℕ) → IsOrder G k m → IsOrder G k n → m ≡ n
-  order_unique k m n p q = p.is_product ∙ ap₂ (λ x y. x * y) (exponent_unique p.exponent q.exponent p.is_exponent q.is_exponent)
-      (period_unique k p.period q.period p.is_period q.is_period) ∙ sym q.is_product
 
 -- one status, or two that tell of no limit, no fault and no verdict of no
 abbrev pub Agree : Status → Status → Type 0

@@ -1,48 +1,27 @@
 -- A wave vector has one star, and its star one text.
 --   reduced_unique        a wave vector has one reduced form
---   numbering_unique      operations have one numbering
 --   one_star              what is said of a star is said by no other content
-use Rattle.std.proofs.Common.{◌≡◌, sym, ◌∙◌, ap, ap₂, subst, subst₂, refl, inl, inr, ℕ, ◌<◌, ◌≤◌, ◌⊎◌, arith}
+use Rattle.std.proofs.Common.{◌≡◌, sym, ◌∙◌, ap, ap₂, subst, refl, inl, inr, ℕ, ◌<◌, ◌≤◌, arith}
 use Rattle.std.proofs.lemmas.Bool.{cases_lt}
 use mathlib.Core.Path.{fun_ext}
 use Rattle.irr_algebra.specs.Fin.{Fin, to_nat}
 use Rattle.irr_algebra.proofs.Indices.{to_nat-lt, to_nat_inj, from_nat, to_nat-from_nat}
-use Rattle.irr_algebra.specs.Matrix.{◌⊕◌, ◌⊖◌}
-use Rattle.irr_rational.specs.Rational.{Rational}
-use Rattle.irr_rational.specs.Order.{◌<ℚ◌, IsAtMost, IsBelow}
-use Rattle.irr_rational.proofs.Orders.{lt_irrefl, lt_trans}
+use Rattle.irr_rational.proofs.Lexicographic.{at_most_antisymm}
 use Rattle.irr_lattice.proofs.Vectors.{wave-ext}
-use Rattle.irr_space.specs.Operation.{Operation, WaveVector, Vector, ◌⊙◌, translation, wave_component}
-use Rattle.irr_space.specs.Reciprocal.{Sign, AreEquivalent, IsReduced, IsPhase}
-use Rattle.irr_space.specs.CanonicalOperation.{IsNumbering, IsNumberedBefore}
+use Rattle.irr_space.specs.Operation.{Operation, WaveVector, wave_component}
+use Rattle.irr_space.specs.Reciprocal.{Sign, AreEquivalent, IsReduced}
+use Rattle.irr_space.specs.CanonicalOperation.{IsNumbering}
 use Rattle.irr_space.specs.Star.{Carries, IsArms, IsInLittleGroup}
 use Rattle.irr_space.specs.PhaseTable.{PhaseTable, IsTableOf}
-use Rattle.irr_cocycle.proofs.Operations.{rotation-translation-op, vector-translation-op, add-sub}
 use Rattle.irr_cocycle.proofs.Reciprocals.{equivalent_sym, equivalent_trans}
-use Rattle.irr_cocycle.proofs.Phases.{phase_unique}
-use Rattle.irr_close.proofs.Numbering.{numbered_irrefl, numbered_chain}
 use Rattle.irr_little.proofs.Spaces.{carried_to}
 use Rattle.irr_text.specs.StarText.{StarContent, star_content, IsStarOf}
-use Rattle.irr_top.proofs.Enumerations.{Agree, same_length, agree}
-use Rattle.irr_top.proofs.OneAnswer.{order_unique}
-
--- lists of which each is at most the other
-at_most_both : {n : ℕ} (f g : Fin n → Rational) → IsAtMost f g → IsAtMost g f → (i : Fin n) → f i ≡ g i
-at_most_both f g (inl e) q i = e i
-at_most_both f g (inr b) (inl e) i = sym (e i)
-at_most_both f g (inr b) (inr c) i = absurd (elim (cases_lt (to_nat b.place) (to_nat c.place)) [
-  | inl first ↦ b.less.1 (sym (c.before b.place first))
-  | inr past ↦ elim (cases_lt (to_nat c.place) (to_nat b.place)) [
-    | inl second ↦ c.less.1 (sym (b.before c.place second))
-    | inr same ↦ (
-        let e : c.place ≡ b.place = to_nat_inj c.place b.place (omega (arith, past, same)) in
-        lt_irrefl (f b.place) (lt_trans (f b.place) (g b.place) (f b.place) b.less (subst (λ p. g p <ℚ f p) e c.less)))
-  ]
-])
+use Rattle.irr_check.proofs.Enumerations.{Agree, agree, same_length}
+use Rattle.irr_check.proofs.OneTable.{IsListTable, along_numbering, exponent_unique, numbering_length, numbering_unique, order_unique, product_unique}
 
 module _ (G : Operation → Type 0) where
   pub reduced_unique : (k r s : WaveVector) → IsReduced G k r → IsReduced G k s → r ≡ s
-  reduced_unique k r s p q = wave-ext r s (at_most_both (wave_component r) (wave_component s)
+  reduced_unique k r s p q = wave-ext r s (at_most_antisymm (wave_component r) (wave_component s)
       (p.least s q.equivalent q.no_negative) (q.least r p.equivalent p.no_negative))
 
   -- equivalent reduced wave vectors
@@ -52,25 +31,6 @@ module _ (G : Operation → Type 0) where
     no_negative = p.no_negative;
     least = λ w f m. p.least w (equivalent_trans G w s r f (equivalent_sym G r s e)) m;
   }) q
-
--- the order of the numbering
-abbrev IsOperationBefore : Operation → Operation → Type 0
-IsOperationBefore g h = IsNumberedBefore g.rotation h.rotation
-
-irreflexive : (g : Operation) → IsOperationBefore g g → ⊥
-irreflexive g = numbered_irrefl g.rotation
-
-chain : (f g h : Operation) → IsOperationBefore f g → IsOperationBefore g h → IsOperationBefore f h
-chain f g h = numbered_chain f.rotation g.rotation h.rotation
-
-module _ (G P : Operation → Type 0) {n m : ℕ} (f : Fin n → Operation) (g : Fin m → Operation) (p : IsNumbering G P f) (q : IsNumbering G P g) where
-  pub numbering_length : n ≡ m
-  numbering_length = same_length IsOperationBefore irreflexive chain f g p.ordered q.ordered (λ i. q.all (f i) (p.canonical i) (p.member i))
-      (λ j. p.all (g j) (q.canonical j) (q.member j))
-
-  pub numbering_unique : Agree f g
-  numbering_unique = agree IsOperationBefore irreflexive chain f g p.ordered q.ordered (λ i. q.all (f i) (p.canonical i) (p.member i))
-      (λ j. p.all (g j) (q.canonical j) (q.member j))
 
 -- the arms of a star, found twice
 module _ (G : Operation → Type 0) (k : WaveVector) {n m a b : ℕ} (ops : Fin n → Operation) (others : Fin m → Operation)
@@ -146,34 +106,15 @@ module _ (G : Operation → Type 0) (k : WaveVector) {n m a b : ℕ} (ops : Fin 
 -- the tables of one numbering
 module _ (s : Sign) (G P : Operation → Type 0) (k : WaveVector) {h : ℕ} (ops : Fin h → Operation) (p : IsNumbering G P ops) (T U : PhaseTable h)
     (t : IsTableOf s G k ops T) (u : IsTableOf s G k ops U) where
-  same_place : (i j : Fin h) → (ops i).rotation ≡ (ops j).rotation → i ≡ j
-  same_place i j e = to_nat_inj i j (elim (cases_lt (to_nat i) (to_nat j)) [
-    | inl first ↦ absurd (numbered_irrefl (ops i).rotation (subst (λ R. IsNumberedBefore (ops i).rotation R) (sym e) (p.ordered i j first)))
-    | inr past ↦ elim (cases_lt (to_nat j) (to_nat i)) [
-      | inl second ↦ absurd (numbered_irrefl (ops i).rotation (subst (λ R. IsNumberedBefore R (ops i).rotation) (sym e) (p.ordered j i second)))
-      | inr here ↦ omega (arith, past, here)
-    ]
-  ])
-
   same_order : T.order ≡ U.order
   same_order = order_unique G k T.order U.order t.is_order u.is_order
 
-  same_product : (i j : Fin h) → T.product i j ≡ U.product i j
-  same_product i j = same_place (T.product i j) (U.product i j) (sym (rotation-translation-op (t.quotient i j) (ops (T.product i j)))
-      ∙ ap (λ (g : Operation). g.rotation) (sym (t.products i j) ∙ u.products i j) ∙ rotation-translation-op (u.quotient i j) (ops (U.product i j)))
+  list : IsListTable s k U.order ops T.product T.exponent
+  list = subst (λ n. IsListTable s k n ops T.product T.exponent) same_order
+      (record { quotient = t.quotient; products = t.products; phases = t.phases })
 
-  same_quotient : (i j : Fin h) → u.quotient i j ≡ t.quotient i j
-  same_quotient i j = sym (add-sub (u.quotient i j) (ops (U.product i j)).vector) ∙ ap (λ v. v ⊖ (ops (U.product i j)).vector) sums
-      ∙ ap (λ l. (t.quotient i j ⊕ (ops (T.product i j)).vector) ⊖ (ops l).vector) (sym (same_product i j))
-      ∙ add-sub (t.quotient i j) (ops (T.product i j)).vector
-    where
-      sums : u.quotient i j ⊕ (ops (U.product i j)).vector ≡ t.quotient i j ⊕ (ops (T.product i j)).vector
-      sums = sym (vector-translation-op (u.quotient i j) (ops (U.product i j))) ∙ ap (λ (g : Operation). g.vector) (sym (u.products i j) ∙ t.products i j)
-          ∙ vector-translation-op (t.quotient i j) (ops (T.product i j))
-
-  same_exponent : (i j : Fin h) → T.exponent i j ≡ U.exponent i j
-  same_exponent i j = phase_unique s T.order k (t.quotient i j) (T.exponent i j) (U.exponent i j) (t.phases i j)
-      (subst₂ (λ n v. IsPhase s n k v (U.exponent i j)) (sym same_order) (same_quotient i j) (u.phases i j))
+  other_list : IsListTable s k U.order ops U.product U.exponent
+  other_list = record { quotient = u.quotient; products = u.products; phases = u.phases }
 
   module _ (wave : WaveVector) {a : ℕ} (arm : Fin a → WaveVector) (carrier : Fin a → Operation) where
     made : ℕ → (Fin h → Fin h → Fin h) → (Fin h → Fin h → ℕ) → StarContent
@@ -192,8 +133,10 @@ module _ (s : Sign) (G P : Operation → Type 0) (k : WaveVector) {h : ℕ} (ops
     same_table : star_content wave arm carrier ops T ≡ star_content wave arm carrier ops U
     unfolding made
     same_table = ap (λ n. made n T.product T.exponent) same_order
-        ∙ ap (λ f. made U.order f T.exponent) (fun_ext (λ i. fun_ext (λ j. same_product i j)))
-        ∙ ap (λ f. made U.order U.product f) (fun_ext (λ i. fun_ext (λ j. same_exponent i j)))
+        ∙ ap (λ f. made U.order f T.exponent)
+        (product_unique s k U.order ops p.ordered T.product U.product T.exponent U.exponent list other_list)
+        ∙ ap (λ f. made U.order U.product f)
+        (exponent_unique s k U.order ops p.ordered T.product U.product T.exponent U.exponent list other_list)
 
 -- with the same arms, and with the same operations
 module _ (wave : WaveVector) {a h : ℕ} (arm : Fin a → WaveVector) (carrier : Fin a → Operation) (ops : Fin h → Operation) (T : PhaseTable h) where
@@ -203,15 +146,12 @@ module _ (wave : WaveVector) {a h : ℕ} (arm : Fin a → WaveVector) (carrier :
       → star_content wave arm carrier ops T ≡ star_content wave {a = c} other_arm other ops T) e
       (λ other_arm other x y. ap₂ (λ m n. star_content wave {a = a} m n ops T) (fun_ext (λ i. x i i refl)) (fun_ext (λ i. y i i refl)))
 
-  with_operations : (s : Sign) (G P : Operation → Type 0) (k : WaveVector) → IsNumbering G P ops → IsTableOf s G k ops T → (g : ℕ) → h ≡ g
-      → (others : Fin g → Operation) (U : PhaseTable g) → Agree ops others → IsTableOf s G k others U
+  with_operations : (s : Sign) (G P : Operation → Type 0) (k : WaveVector) → IsNumbering G P ops → IsTableOf s G k ops T → {g : ℕ}
+      (others : Fin g → Operation) (U : PhaseTable g) → IsNumbering G P others → IsTableOf s G k others U
       → star_content wave arm carrier ops T ≡ star_content wave arm carrier others U
-  with_operations s G P k p t g e = subst (λ c. (others : Fin c → Operation) (U : PhaseTable c) → Agree ops others → IsTableOf s G k others U
-      → star_content wave arm carrier ops T ≡ star_content wave arm carrier {h = c} others U) e
-      (λ others U x u.
-      let same : ops ≡ others = fun_ext (λ i. x i i refl) in
-      same_table s G P k ops p T U t (subst (λ o. IsTableOf s G k o U) (sym same) u) wave arm carrier
-      ∙ ap (λ o. star_content wave arm carrier o U) same)
+  with_operations s G P k p t others U q u = along_numbering G P ops others p q
+      (λ c f. (V : PhaseTable c) → IsTableOf s G k f V → star_content wave arm carrier ops T ≡ star_content wave arm carrier f V)
+      (λ V v. same_table s G P k ops p T V t v wave arm carrier) U u
 
 pub one_star : (s : Sign) (G : Operation → Type 0) (k : WaveVector) (c d : StarContent) → IsStarOf s G k c → IsStarOf s G k d → c ≡ d
 one_star s G k c d p q = p.content
@@ -221,7 +161,6 @@ one_star s G k c d p q = p.content
     q.arm (λ i. q.canonical (q.number i))
     (arms_agree G k p.canonical q.canonical p.canonical_numbering q.canonical_numbering p.arm p.number p.are_arms q.arm q.number q.are_arms)
     (carriers_agree G k p.canonical q.canonical p.canonical_numbering q.canonical_numbering p.arm p.number p.are_arms q.arm q.number q.are_arms)
-    ∙ with_operations q.wave q.arm (λ i. q.canonical (q.number i)) p.operation p.table s G (IsInLittleGroup G k) k p.numbering p.is_table q.places
-    (numbering_length G (IsInLittleGroup G k) p.operation q.operation p.numbering q.numbering) q.operation q.table
-    (numbering_unique G (IsInLittleGroup G k) p.operation q.operation p.numbering q.numbering) q.is_table
+    ∙ with_operations q.wave q.arm (λ i. q.canonical (q.number i)) p.operation p.table s G (IsInLittleGroup G k) k p.numbering p.is_table
+    q.operation q.table q.numbering q.is_table
     ∙ sym q.content

@@ -17,14 +17,15 @@ use Rattle.irr_cocycle.proofs.Reciprocals.{equivalent_sym}
 use Rattle.irr_close.specs.StandsFor.{stands_for}
 use Rattle.irr_close.specs.declared.group.Group.{Group}
 use Rattle.irr_little.specs.Table.{IsLittleTable, listed_operations}
+use Rattle.irr_little.proofs.Spaces.{form_of}
+use Rattle.irr_check.proofs.Along.{numbering_along, order_along, table_along}
 use Rattle.irr_top.specs.Asked.{order_limit}
 use Rattle.irr_top.specs.GroupOf.{IsGroupOf, group_of}
 use Rattle.irr_top.specs.LittleTable.{IsTableAt}
 use Rattle.irr_top.specs.SmallText.{IsListText, IsTableRefusal, IsSmallText, IsNoReport}
 use Rattle.irr_top.specs.declared.small_text.NoReport.{NoReport}
 use Rattle.irr_top.specs.declared.small_text.NoReport.TheVariants.{OrderTooLarge, Unchained, Memory}
-use Rattle.irr_top.proofs.Along.{order_along, numbering_along, table_along}
-use Rattle.irr_top.proofs.Groups.{form_of, is_group, order_at}
+use Rattle.irr_top.proofs.Groups.{is_group, order_at}
 use Rattle.irr_top.proofs.Members.{some_item}
 
 module _ (group : Group) (gens : List Op) (is : IsGroupOf group gens) (k w : WaveVector) (reduced : IsReduced (group_of gens) k w) where

@@ -34,15 +34,15 @@ use Rattle.irr_little.specs.Table.{IsLittleTable, IsLittleRefusal, listed_operat
 use Rattle.irr_little.specs.declared.LittleError.{LittleError}
 use Rattle.irr_little.specs.declared.LittleError.TheVariants.{OrderTooLarge, Memory}
 use Rattle.irr_little.specs.declared.arms.Arm.{Arm}
-use Rattle.irr_little.proofs.Spaces.{has_canonical, numbering_of}
+use Rattle.irr_little.proofs.Spaces.{form_of, has_canonical, numbering_of}
 use Rattle.irr_report.specs.Printed.{numbered, operation_text}
 use Rattle.irr_report.proofs.Pieces.{pieces-numbered}
+use Rattle.irr_check.proofs.Along.{order_along}
 use Rattle.irr_top.specs.StarText.{IsStarTextAt, IsStarText, IsNoStar, AreInList, head_text, arm_words, arm_text, factor, factors, listed_content}
 use Rattle.irr_top.specs.Asked.{order_limit}
 use Rattle.irr_top.specs.GroupOf.{IsGroupOf, group_of}
-use Rattle.irr_top.proofs.Along.{order_along, star_along}
+use Rattle.irr_top.proofs.Along.{star_along}
 use Rattle.irr_top.proofs.FirstArms.{first_arm, first_wave}
-use Rattle.irr_top.proofs.Groups.{form_of}
 
 -- an operation and an arm past the ends of the lists
 pub other_operation : Group → Op

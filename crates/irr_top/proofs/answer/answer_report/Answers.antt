@@ -3,6 +3,7 @@ use Rattle.std.proofs.Common.{refl, subst, sym}
 use Rattle.irr_kvec.specs.WaveMeaning.{wave_vector}
 use Rattle.irr_close.specs.StandsFor.{stands_for}
 use Rattle.irr_report.specs.Content.{content_of}
+use Rattle.irr_check.proofs.Along.{order_along}
 use Rattle.irr_top.specs.RefusalText.{refusal_text}
 use Rattle.irr_top.specs.VerdictText.{verdict_status, verdict_text}
 use Rattle.irr_top.specs.GroupOf.{group_of}
@@ -11,7 +12,6 @@ use Rattle.irr_top.specs.Ended.Replies.{serves, without_memory}
 use Rattle.irr_top.specs.declared.request.Request.TheVariants.{Check}
 use Rattle.irr_top.specs.declared.status.Status.TheVariants.{TooLarge}
 use Rattle.irr_top.specs.declared.status.Kind.TheVariants.{Order}
-use Rattle.irr_top.proofs.Along.{order_along}
 use Rattle.irr_top.proofs.Judgements.{judged_along, order_within}
 use Rattle.irr_top.proofs.answer.answer_report.Goals as goal
 
