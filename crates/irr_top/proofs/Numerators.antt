@@ -10,7 +10,6 @@ use Rattle.irr_algebra.specs.Fin.{Fin}
 use Rattle.irr_rational.specs.Rational.{Rational, ratio}
 use Rattle.irr_rational.specs.Ratio.{AreLowest, IsLowest, entry}
 use Rattle.irr_rational.proofs.Ratios.{cross_of_ratio}
-use Rattle.irr_rational.proofs.ListedRatios.{ratios-at}
 use Rattle.irr_canonical.specs.Coefficient.{denominator}
 use Rattle.irr_space.specs.Operation.{component}
 use Rattle.irr_text.specs.NumberText.{numerator}

@@ -2,7 +2,7 @@
 --   served_command       a command whose verb is served is a request
 --   faulty_unserved      the first word is that of no command that is served, or there is none
 --   faulty_served        behind the word of a command that is served, a word is faulty where it is for all commands
-use Rattle.std.proofs.Common.{◌≡◌, refl, sym, ◌∙◌, ap, subst, ℕ, zero, suc, ◌≤◌, ◌⊎◌, inl, inr, List, [], ◌∷◌, ◌++◌, length, take, arith}
+use Rattle.std.proofs.Common.{◌≡◌, refl, sym, ◌∙◌, ℕ, zero, suc, ◌≤◌, inl, inr, List, [], ◌∷◌, ◌++◌, length, take, arith}
 use Rattle.std.specs.Prelude.{codes}
 use Rattle.irr_grammar.specs.ShapePlace.{BeginsIn}
 use Rattle.irr_input.specs.Command.{AreWords, IsFaulty, verb_of, verb_word, IsCommand as IsAnyCommand}

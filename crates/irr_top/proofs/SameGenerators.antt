@@ -3,7 +3,7 @@
 --   same_placed             the operations on lines are one by one those on lines that say the same
 --   operations_same         so the groups are one
 --   refusal_along, accepted_along     and pass the same limits
-use Rattle.std.proofs.Common.{◌≡◌, refl, sym, ◌∙◌, ap, ap₂, subst, ℕ, ◌≤◌, List, [], ◌∷◌, map, arith}
+use Rattle.std.proofs.Common.{◌≡◌, refl, sym, ap, ap₂, subst, ℕ, ◌≤◌, List, [], ◌∷◌, map, arith}
 use Rattle.std.specs.List.{All}
 use Rattle.std.specs.Int.{◌∣◌}
 use Rattle.std.proofs.lemmas.List.Elements.{All-cons, All-head, All-tail}

@@ -13,7 +13,7 @@ use Rattle.std.proofs.lemmas.List.{get_or_default}
 use mathlib.Core.Path.{fun_ext}
 use Rattle.irr_algebra.specs.Fin.{Fin, to_nat}
 use Rattle.irr_algebra.proofs.Indices.{from_nat, to_nat-from_nat, to_nat-lt}
-use Rattle.irr_space.specs.Operation.{Operation, WaveVector}
+use Rattle.irr_space.specs.Operation.{WaveVector}
 use Rattle.irr_space.specs.Reciprocal.{IsOrder, IsReduced}
 use Rattle.irr_space.specs.PhaseTable.{PhaseTable}
 use Rattle.irr_text.specs.TripletText.{triplet_text}

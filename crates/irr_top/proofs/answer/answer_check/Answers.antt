@@ -1,6 +1,5 @@
 -- The answer to `check`: there is a report.
-use Rattle.std.proofs.Common.{subst, Option, IfSome}
-use Rattle.irr_text.specs.ReportText.{ReportContent}
+use Rattle.std.proofs.Common.{subst, IfSome}
 use Rattle.irr_report.specs.Limits.{IsWithinLimits}
 use Rattle.irr_input.specs.InputLines.{content}
 use Rattle.irr_top.specs.Request.{HasSections}

@@ -1,5 +1,5 @@
 -- The answer to each request where the group is known.
-use Rattle.std.proofs.Common.{subst, Option, IfSome}
+use Rattle.std.proofs.Common.{subst, IfSome}
 use Rattle.irr_kvec.specs.Centrings.{IsWithinLimits}
 use Rattle.irr_input.specs.InputLines.{content}
 use Rattle.irr_top.specs.Request.{named_wave, HasSections}

@@ -1,5 +1,5 @@
 -- The verdict on a report, by the group that the generators generate.
-use Rattle.std.proofs.Common.{refl, subst, sym}
+use Rattle.std.proofs.Common.{refl}
 use Rattle.irr_kvec.specs.WaveMeaning.{wave_vector}
 use Rattle.irr_close.specs.StandsFor.{stands_for}
 use Rattle.irr_report.specs.Content.{content_of}

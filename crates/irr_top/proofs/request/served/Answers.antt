@@ -1,8 +1,8 @@
 -- The words of a command that is served, or the first faulty one.
-use Rattle.std.proofs.Common.{◌↔◌, ◌≡◌, refl, subst, sym, IfSome, IsTrue}
+use Rattle.std.proofs.Common.{refl, subst, IfSome, IsTrue}
 use Rattle.irr_kvec.specs.Centrings.{IsWithinLimits}
 use Rattle.irr_input.specs.Command.{texts, AreLimited}
-use Rattle.irr_top.specs.Request.{command_of, named_wave, BeginsServed, IsFaultyWord}
+use Rattle.irr_top.specs.Request.{command_of, named_wave}
 use Rattle.irr_top.specs.declared.request.Request.{Request}
 use Rattle.irr_top.specs.declared.request.Request.TheVariants.{Star, Small, Check}
 use Rattle.irr_top.proofs.RequestWords.{faulty_served, faulty_unserved, unserved_first}
