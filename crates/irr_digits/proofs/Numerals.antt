@@ -8,13 +8,9 @@
 --   signed_decimal_unique         and the same of the text of a whole number
 --   digit_between                 a digit as a byte and as a number
 --   digits_value-front            the value of digits one further, and that of all
---   numeral_of_text               what is known of digits that are the text of a number
---   minus_of_text                 a number whose text begins with a minus is below 0
---   only_of_minus                 so it is read off the rest
 --   run_more                      a run of digits and one digit more
 --   run_whole                     a text of digits has no shorter run
---   found_of_value, only_of_value     what the capped value says of a number's text
-use Rattle.std.proofs.Common.{◌≡◌, refl, sym, ◌∙◌, ap, subst, ℕ, zero, suc, ◌<◌, ◌≤◌, ◌^◌, ◌+◌, ◌-◌, ◌*◌, ℤ, pos, negsuc, List, [], ◌∷◌, ◌++◌, length, get_or, take, drop, append-nil, Option, None, Some, IfSome, IsNone, ◌↔◌, true, false, arith, inl, inr}
+use Rattle.std.proofs.Common.{◌≡◌, refl, sym, ◌∙◌, ap, subst, ℕ, zero, suc, ◌<◌, ◌≤◌, ◌^◌, ◌+◌, ◌-◌, ◌*◌, ℤ, pos, negsuc, List, [], ◌∷◌, ◌++◌, length, get_or, take, drop, arith, inl, inr}
 use Rattle.std.proofs.lemmas.Bool.{cases_lt}
 use Rattle.std.specs.Char.{digit_value}
 use Rattle.std.specs.Int.{IsInRange}
@@ -90,44 +86,11 @@ digits_value-front ds i v all e h =
     let more : digits_value 10 (take (i + 1) ds) ≡ v * 10 + (get_or ds i 0 - 48) = digits_value_more 10 ds i h ∙ ap (λ w. w * 10 + digit_value (get_or ds i 0)) (sym e) ∙ ap (λ d. v * 10 + d) less in
     (more, subst (λ w. w ≤ digits_value 10 ds) more (digits_value-take-le 10 ds (i + 1) (omega arith)))
 
--- a text of a number has its digits, with no leading zero, and its value
-pub numeral_of_text : (ds : List ℕ) (n : ℕ) → n < 2 ^ 64 → ds ≡ decimal n → IsNumeral 10 ds × HasNoLeadingZero ds × (digits_value 10 ds ≡ n)
-numeral_of_text ds n h e = let is = decimal_is_IsNumeral n h in
-    (subst (IsNumeral 10) (sym e) is.0, subst HasNoLeadingZero (sym e) (no_leading_zero-decimal n h), ap (digits_value 10) e ∙ is.1)
-
 -- where all bytes are digits the run ends at the end
 pub run_whole : (ds : List ℕ) (r : ℕ) → AllDigits 10 ds → ¬ (BeginsWithDigit (drop r ds)) → length ds ≤ r
 run_whole [] r p f = omega arith
 run_whole (c ∷ cs) zero p f = absurd (f p.0)
 run_whole (c ∷ cs) (suc r) p f = let rest : length cs ≤ r = run_whole cs r p.1 f in omega arith
-
--- the capped value of digits with no leading zero is the number whose text they are
-pub found_of_value : (r : Option ℕ) (ds : List ℕ) (most : ℕ) → most < 2 ^ 64 → IsNumeral 10 ds × HasNoLeadingZero ds → IfSome r (λ n. n ≡ digits_value 10 ds)
-    → IsNone r ↔ (most < digits_value 10 ds) → IfSome r (λ n. (n ≤ most) × (ds ≡ decimal n))
-found_of_value None ds most small plain value above = tt
-found_of_value (Some n) ds most small plain value above = elim (cases_lt most (digits_value 10 ds)) [
-  | inl l ↦ (let none : true ≡ false = above.1 l in absurd (cc))
-  | inr g ↦ (omega (arith, value), sym (ap decimal value ∙ decimal_of_digits ds plain.0 plain.1 (omega arith)))
-]
-
-pub only_of_value : (r : Option ℕ) (ds : List ℕ) (most n : ℕ) → most < 2 ^ 64 → IfSome r (λ n. n ≡ digits_value 10 ds)
-    → IsNone r ↔ (most < digits_value 10 ds) → n ≤ most → ds ≡ decimal n → r ≡ Some n
-only_of_value None ds most n small value above le e =
-    let is : digits_value 10 ds ≡ n = (numeral_of_text ds n (omega arith) e).2 in
-    let over : most < digits_value 10 ds = above.0 refl in
-    absurd (omega arith)
-only_of_value (Some m) ds most n small value above le e = ap Some (value ∙ (numeral_of_text ds n (omega arith) e).2)
-
--- where the text of a whole number begins with a minus, the rest is the text of a natural number above 0
-pub minus_of_text : (k : ℤ) (ds : List ℕ) → unsigned_abs k < 2 ^ 63 → 45 ∷ ds ≡ signed_decimal k → (m : ℕ) × (k ≡ negsuc m) × (ds ≡ decimal (suc m))
-minus_of_text (pos n) ds h e = absurd (decimal-minus n [] ds (omega arith) (append-nil (decimal n) ∙ sym e))
-minus_of_text (negsuc m) ds h e = (m, refl, cc)
-
-pub only_of_minus : (k : ℤ) (ds : List ℕ) (most : ℕ) (r : Option ℕ) → most < 2 ^ 63 → unsigned_abs k ≤ most → 45 ∷ ds ≡ signed_decimal k → ((n : ℕ) → n ≤ most → ds ≡ decimal n → r ≡ Some n)
-    → (m : ℕ) × (k ≡ negsuc m) × (r ≡ Some (suc m))
-only_of_minus k ds most r small le e only = let t : (m : ℕ) × (k ≡ negsuc m) × (ds ≡ decimal (suc m)) = minus_of_text k ds (omega arith) e in
-    let within : unsigned_abs (negsuc t.0) ≤ most = subst (λ z. unsigned_abs z ≤ most) t.1 le in
-    (t.0, t.1, only (suc t.0) within t.2)
 
 -- one digit more
 pub run_more : (ds : List ℕ) (i : ℕ) → i < length ds → AllDigits 10 (take i ds) → IsInRange 48 57 (get_or ds i 0) → AllDigits 10 (take (i + 1) ds)

@@ -1,6 +1,4 @@
-use crate::{
-    capped_value, decimal_digits, digit_run, printed_integer, printed_number, unique_numbers,
-};
+use crate::{capped_value, decimal_digits, digit_run, unique_numbers};
 
 #[test]
 fn runs_end_at_the_first_byte_that_is_no_digit(rt: HostRuntime) {
@@ -20,23 +18,5 @@ fn values_are_read_up_to_the_cap(rt: HostRuntime) {
         ("18446744073709551616", u64::MAX, None),
     ] {
         assert_eq!(rt; capped_value(digits.as_bytes(), cap), value, "at {digits}");
-    }
-}
-
-#[test]
-fn printed_forms_are_read_and_no_others(rt: HostRuntime) {
-    assert_eq!(rt; printed_number(b"120", 120), Some(120));
-    for (text, value) in [
-        ("0", Some(0)),
-        ("-120", Some(-120)),
-        ("", None),
-        ("-", None),
-        ("+1", None),
-        ("01", None),
-        ("-0", None),
-        ("121", None),
-        ("1 ", None),
-    ] {
-        assert_eq!(rt; printed_integer(text.as_bytes(), 120), value, "at {text}");
     }
 }
