@@ -6,14 +6,12 @@
 --   small_of_least               the least common multiple of all
 use Rattle.std.proofs.Common.{◌≡◌, sym, ◌∙◌, ap, subst, refl, ℕ, zero, suc, ◌<◌, ◌≤◌, ◌+◌, ◌*◌, ◌%◌, ◌^◌, inl, inr, List, length, get_or, arith, mod-lt, mul-pos}
 use Rattle.std.specs.List.{All, HoldsAt}
-use Rattle.std.specs.Int.{◌∣◌, IsGcd}
+use Rattle.std.specs.Int.{◌∣◌}
 use Rattle.std.proofs.lemmas.List.{get_or_default}
 use Rattle.std.proofs.lemmas.Bool.{cases_lt}
 use native.Mathlib.Nat as Nat
-use Rattle.std.proofs.lemmas.Nat.Gcd.{IsGcd-from_zero, IsGcd-from_mod}
-use Rattle.irr_number.proofs.Primes.{divisor_pos, strong_induction}
 use Rattle.irr_rat.specs.Lcm.{IsLcm}
-use Rattle.irr_rat.proofs.Multiples.{lcm_of_gcd}
+use Rattle.irr_rat.proofs.Multiples.{lcm_exists, lcm_positive}
 use Rattle.irr_seitz.specs.declared.op.Op.{Op}
 use Rattle.irr_close.specs.Limits.{HasSmallDenominator}
 
@@ -25,21 +23,6 @@ pub record IsLeastSoFar (gs : List Op) (common n : ℕ) : Type 0 where
 
 pub least_start : (gs : List Op) → IsLeastSoFar gs 1 0
 least_start gs = record { positive = omega arith; small = omega arith; multiple = λ j l. absurd (omega arith); least = λ D p all. Nat.one-dvd D }
-
-lcm_positive : (a b m : ℕ) → 0 < a → 0 < b → IsLcm a b m → 0 < m
-lcm_positive a b m p q h = divisor_pos m (a * b) (mul-pos p q) (h.2 (a * b) (Nat.dvd-mul_right_of_dvd a (Nat.dvd_refl a) b) (Nat.dvd-mul_left b a))
-
--- there is a greatest common divisor, by Euclid's algorithm, and so a least common multiple
-gcd_exists : (b a : ℕ) → (g : ℕ) × IsGcd a b g
-gcd_exists = strong_induction (λ b. (a : ℕ) → (g : ℕ) × IsGcd a b g) step
-  where
-    step : (b : ℕ) → ((m : ℕ) → m < b → (a : ℕ) → (g : ℕ) × IsGcd a m g) → (a : ℕ) → (g : ℕ) × IsGcd a b g
-    step zero ih a = (a, IsGcd-from_zero a 0 refl)
-    step (suc b) ih a = let t : (g : ℕ) × IsGcd (suc b) (a % suc b) g = ih (a % suc b) (mod-lt a (omega arith)) (suc b) in
-        (t.0, IsGcd-from_mod a (suc b) t.0 t.1)
-
-lcm_exists : (a b : ℕ) → 0 < a → (m : ℕ) × IsLcm a b m
-lcm_exists a b h = let t : (g : ℕ) × IsGcd a b g = gcd_exists b a in (_, lcm_of_gcd a b t.0 h t.1)
 
 pub least_more : (gs : List Op) (g : Op) (common n m : ℕ) → n < length gs → g ≡ get_or gs n g → IsLeastSoFar gs common n → IsLcm common g.den m
     → m ≤ 100000 → IsLeastSoFar gs m (n + 1)

@@ -13,7 +13,7 @@ use Rattle.std.proofs.lemmas.List.Elements.{All-append, All-take}
 use Rattle.std.proofs.lemmas.Nat.Gcd.{dvd_trans, le_of_dvd, IsGcd-from_zero, IsGcd-from_mod}
 use native.Mathlib.Nat as Nat
 use Rattle.irr_number.proofs.Primes.{divisor_pos, strong_induction}
-use Rattle.irr_rat.proofs.Multiples.{lcm_of_gcd}
+use Rattle.irr_rat.proofs.Multiples.{lcm_exists, lcm_positive}
 use Rattle.std.specs.Str.Parse.{digits_value}
 use Rattle.irr_numeral.proofs.ExponentOrder.{exponent_of_whole}
 use Rattle.irr_rat.specs.Lcm.{IsLcm}
@@ -86,28 +86,13 @@ positive-term t is n = of_option t.denominator is.denominator n
 pub positive-denominator : (t : WrittenTerm) → IsSmallTerm t → 0 < denominator_of t
 positive-denominator t h = positive-term t h.0 h.1
 
-pub lcm-positive : (a b m : ℕ) → 0 < a → 0 < b → IsLcm a b m → 0 < m
-lcm-positive a b m p q l = divisor_pos m (a * b) (Nat.mul-pos p q) (l.2 (a * b) (Nat.dvd-mul_right a b) (Nat.dvd-mul_left b a))
-
 -- one term more in the program
 pub step-of : (ws : List Written) (i : ℕ) (d : Written) (c q m : ℕ) → i < length ws → IsCommonDenominator (take i (map written_term ws)) c
     → q ≡ denominator_of (written_term (get_or ws i d)) → 0 < q → IsLcm c q m
     → IsCommonDenominator (take (i + 1) (map written_term ws)) m
 step-of ws i d c q m lt h e p l = subst (λ us. IsCommonDenominator us m) (sym (front-more ws i d lt))
     (common-more (take i (map written_term ws)) (written_term (get_or ws i d)) c m h (subst (λ x. 0 < x) e p) (subst (λ x. IsLcm c x m) e l)
-    (lcm-positive c q m h.positive p l))
-
--- there is a greatest common divisor, by Euclid's algorithm, and so a least common multiple
-gcd-exists : (b a : ℕ) → (g : ℕ) × IsGcd a b g
-gcd-exists = strong_induction (λ b. (a : ℕ) → (g : ℕ) × IsGcd a b g) step
-  where
-    step : (b : ℕ) → ((m : ℕ) → m < b → (a : ℕ) → (g : ℕ) × IsGcd a m g) → (a : ℕ) → (g : ℕ) × IsGcd a b g
-    step zero ih a = (a, IsGcd-from_zero a 0 refl)
-    step (suc b) ih a = let t : (g : ℕ) × IsGcd (suc b) (a % suc b) g = ih (a % suc b) (mod-lt a (omega arith)) (suc b) in
-        (t.0, IsGcd-from_mod a (suc b) t.0 t.1)
-
-lcm-exists : (a b : ℕ) → 0 < a → (m : ℕ) × IsLcm a b m
-lcm-exists a b h = let t : (g : ℕ) × IsGcd a b g = gcd-exists b a in (_, lcm_of_gcd a b t.0 h t.1)
+    (lcm_positive c q m h.positive p l))
 
 -- each of the terms of a list, and of one with one term more at its front
 all-cons : (P : WrittenTerm → Type 0) (t : WrittenTerm) (ts : List WrittenTerm) → P t → All P ts → All P (t ∷ ts)
@@ -121,10 +106,10 @@ pub common-exists : (ts : List WrittenTerm) → All (λ t. 0 < denominator_of t)
 common-exists [] p = (1, common-none)
 common-exists (t ∷ ts) p =
     let rest : (c : ℕ) × IsCommonDenominator ts c = common-exists ts (all-tail (λ u. 0 < denominator_of u) t ts p) in
-    let more : (m : ℕ) × IsLcm rest.0 (denominator_of t) m = lcm-exists rest.0 (denominator_of t) rest.1.positive in (
+    let more : (m : ℕ) × IsLcm rest.0 (denominator_of t) m = lcm_exists rest.0 (denominator_of t) rest.1.positive in (
       more.0,
       record {
-        positive = lcm-positive rest.0 (denominator_of t) more.0 rest.1.positive (p 0 t (omega arith)) more.1;
+        positive = lcm_positive rest.0 (denominator_of t) more.0 rest.1.positive (p 0 t (omega arith)) more.1;
         common = all-cons (λ u. denominator_of u ∣ more.0) t ts more.1.1
             (λ k d lt. dvd_trans (denominator_of (get_or ts k d)) (rest.1.common k d lt) more.1.0);
         least = λ x all. more.1.2 x (rest.1.least x (all-tail (λ u. denominator_of u ∣ x) t ts all)) (all 0 t (omega arith));

@@ -2,12 +2,14 @@
 --   lcm_of_gcd          the least common multiple by the greatest common divisor
 --   lcm_zero            that of 0
 --   lcm_unique          there is one at most
-use Rattle.std.proofs.Common.{◌≡◌, sym, ◌∙◌, ap, subst, refl, ℕ, ◌<◌, ◌≤◌, ◌*◌, ◌/◌, ◌^◌, ◌↔◌, pos, arith, Option, None, Some, SomeIff, IfSome, IsNone, true, false}
+--   lcm_exists          and there is one, by Euclid's algorithm
+--   lcm_positive        that of numbers above 0 is above 0
+use Rattle.std.proofs.Common.{◌≡◌, sym, ◌∙◌, ap, subst, refl, ℕ, zero, suc, ◌<◌, ◌≤◌, ◌*◌, ◌/◌, ◌%◌, ◌^◌, mod-lt, ◌↔◌, pos, arith, Option, None, Some, SomeIff, IfSome, IsNone, true, false}
 use Rattle.std.specs.Int.{◌∣◌, IsGcd}
-use Rattle.std.proofs.lemmas.Nat.Gcd.{IsGcd-swap}
+use Rattle.std.proofs.lemmas.Nat.Gcd.{IsGcd-from_mod, IsGcd-from_zero, IsGcd-swap}
 use native.Mathlib.Nat as Nat
 use Rattle.irr_algebra.specs.Fin.Fin.{first}
-use Rattle.irr_number.proofs.Primes.{cofactor, divisor_pos}
+use Rattle.irr_number.proofs.Primes.{cofactor, divisor_pos, strong_induction}
 use Rattle.irr_rational.specs.Ratio.{IsLowest}
 use Rattle.irr_rational.proofs.LowestTerms.{lowest_quotients}
 use Rattle.irr_rational.proofs.WholeNumbers.{dvd_of_lowest}
@@ -54,6 +56,20 @@ lcm_of_gcd a b g h k = (
         divides = coprime_dvd (a / g) (b / g) t.0 (lowest_quotients (pos b) a g h (IsGcd-swap a b g k)).0
             (subst (λ n. a / g ∣ n) (Nat.mul_comm (b / g) t.0) (Nat.dvd_of_mul-dvd-mul_left (a / g) g-pos
             (subst (λ n. g * (a / g) ∣ n) (t.1 ∙ ap (λ n. n * t.0) (sym second-part) ∙ Nat.mul_assoc g (b / g) t.0) (subst (λ n. n ∣ d) (sym first-part) v))))
+
+gcd_exists : (b a : ℕ) → (g : ℕ) × IsGcd a b g
+gcd_exists = strong_induction (λ b. (a : ℕ) → (g : ℕ) × IsGcd a b g) step
+  where
+    step : (b : ℕ) → ((m : ℕ) → m < b → (a : ℕ) → (g : ℕ) × IsGcd a m g) → (a : ℕ) → (g : ℕ) × IsGcd a b g
+    step zero ih a = (a, IsGcd-from_zero a 0 refl)
+    step (suc b) ih a = let t : (g : ℕ) × IsGcd (suc b) (a % suc b) g = ih (a % suc b) (mod-lt a (omega arith)) (suc b) in
+        (t.0, IsGcd-from_mod a (suc b) t.0 t.1)
+
+pub lcm_exists : (a b : ℕ) → 0 < a → (m : ℕ) × IsLcm a b m
+lcm_exists a b h = let t : (g : ℕ) × IsGcd a b g = gcd_exists b a in ((a / t.0) * b, lcm_of_gcd a b t.0 h t.1)
+
+pub lcm_positive : (a b m : ℕ) → 0 < a → 0 < b → IsLcm a b m → 0 < m
+lcm_positive a b m p q l = divisor_pos m (a * b) (Nat.mul-pos p q) (l.2 (a * b) (Nat.dvd-mul_right a b) (Nat.dvd-mul_left b a))
 
 -- an answer that is m where m fits
 pub checked_lcm : (a b m : ℕ) (r : Option ℕ) → IsLcm a b m → SomeIff r (m < 2 ^ 64) m

@@ -1,5 +1,4 @@
 -- Common denominators of lists of terms, and sizes over them.
---   lcm-exists      two numbers above 0 have a least common multiple
 --   common-both     the common denominator of two lists of terms
 --   common-some     terms with no denominator 0 have one
 --   size-over       the size over a multiple of a common denominator
@@ -14,23 +13,12 @@ use Rattle.std.proofs.lemmas.Nat.Gcd.{dvd_trans, IsGcd-from_zero, IsGcd-from_mod
 use native.Mathlib.Nat as Nat
 use Rattle.irr_number.proofs.Primes.{divisor_pos}
 use Rattle.irr_rat.specs.Lcm.{IsLcm}
-use Rattle.irr_rat.proofs.Multiples.{lcm_of_gcd}
+use Rattle.irr_rat.proofs.Multiples.{lcm_exists, lcm_positive}
 use Rattle.irr_numeral.specs.TermPlaces.{HasZero}
 use Rattle.irr_numeral.specs.WrittenNumber.{WrittenTerm, IsDenominator, AreTerms}
 use Rattle.irr_numeral.specs.WrittenValue.{IsCommonDenominator, denominator_of, denominator_value, numerator_over, written_size}
-use Rattle.irr_numeral.proofs.CommonDenominators.{common-none, lcm-positive, positive-value}
+use Rattle.irr_numeral.proofs.CommonDenominators.{common-none, positive-value}
 use Rattle.irr_numeral.proofs.ExponentOrder.{term-index}
-
-gcd-below : (fuel a b : ℕ) → b ≤ fuel → (g : ℕ) × IsGcd a b g
-gcd-below fuel a zero h = (a, IsGcd-from_zero a 0 refl)
-gcd-below zero a (suc b) h = absurd (omega arith)
-gcd-below (suc fuel) a (suc b) h =
-    let less : a % suc b < suc b = Nat.mod-lt a (omega arith) in
-    let r = gcd-below fuel (suc b) (a % suc b) (omega (arith, less, h)) in
-    (r.0, IsGcd-from_mod a (suc b) r.0 r.1)
-
-pub lcm-exists : (a b : ℕ) → 0 < a → (m : ℕ) × IsLcm a b m
-lcm-exists a b p = let g = gcd-below b a b (omega arith) in ((a / g.0) * b, lcm_of_gcd a b g.0 p g.1)
 
 pub all-one : {A : Type 0} (P : A → Type 0) (x : A) → P x → All P (x ∷ [])
 all-one P x p zero d lt = p
@@ -45,7 +33,7 @@ all-right P ts us h k d lt = subst P (get_or-append-add ts us k d) (h (length ts
 pub common-both : (ts us : List WrittenTerm) (d e m : ℕ) → IsCommonDenominator ts d → IsCommonDenominator us e → IsLcm d e m
     → IsCommonDenominator (ts ++ us) m
 common-both ts us d e m h k l = record {
-  positive = lcm-positive d e m h.positive k.positive l;
+  positive = lcm_positive d e m h.positive k.positive l;
   common = All-append (λ t. denominator_of t ∣ m) ts us
       (λ i x lt. dvd_trans (denominator_of (get_or ts i x)) (h.common i x lt) l.0)
       (λ i x lt. dvd_trans (denominator_of (get_or us i x)) (k.common i x lt) l.1);
@@ -64,7 +52,7 @@ common-some [] p = (1, common-none)
 common-some (t ∷ ts) p =
     let first : 0 < denominator_of t = p 0 t (omega arith) in
     let r = common-some ts (λ k d lt. p (suc k) d (omega arith)) in
-    let l = lcm-exists (denominator_of t) r.0 first in
+    let l = lcm_exists (denominator_of t) r.0 first in
     (l.0, common-both (t ∷ []) ts (denominator_of t) r.0 l.0 (common-one t first) r.1 l.1)
 
 positive-option : (o : Option (List ℕ)) → IfSome o IsDenominator → ¬ (o ≡ Some (48 ∷ [])) → 0 < denominator_value o

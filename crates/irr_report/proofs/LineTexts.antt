@@ -1,7 +1,7 @@
 -- The texts of lines from their parts.
 --   values_none, values_step, values_rows_none, values_rows, values_rows_all     numbers that are appended one after another, and row by row
 --   matrix-parts          the parts of the line of a matrix
---   head-parts            the lines before those of the operations
+--   head_regroup, head-parts     the lines before those of the operations
 --   report-parts          the parts of a report
 use Rattle.std.proofs.Common.{◌≡◌, sym, ◌∙◌, ap, ℕ, ◌+◌, ◌*◌, ◌<◌, ◌≤◌, List, [], ◌∷◌, ◌++◌, append_assoc, append-nil, length, get_or, take, drop, zero-mul, arith}
 use native.Mathlib.Nat as Nat
@@ -51,7 +51,7 @@ module _ {S : Type 0} (order : S → ℕ) (value : (n : ℕ) → S → Number n)
 pub matrix-parts : (before k t : List ℕ) → ((before ++ (codes "mat " ++ k)) ++ t) ++ 10 ∷ [] ≡ before ++ line (codes "mat" ++ next_word k ++ t)
 matrix-parts before k t = simp append_assoc
 
-head_regroup : (r w o p l a n h : List ℕ) → r ++ (w ++ (a ++ (l ++ (o ++ (n ++ (l ++ (p ++ (h ++ l))))))))
+pub head_regroup : (r w o p l a n h : List ℕ) → r ++ (w ++ (a ++ (l ++ (o ++ (n ++ (l ++ (p ++ (h ++ l))))))))
     ≡ ((r ++ ((w ++ a) ++ l)) ++ ((o ++ n) ++ l)) ++ ((p ++ h) ++ l)
 head_regroup r w o p l a n h = simp append_assoc
 

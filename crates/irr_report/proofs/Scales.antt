@@ -14,6 +14,7 @@ use Rattle.std.proofs.lemmas.Nat.Gcd.{le_of_dvd}
 use Rattle.std.proofs.Math.Seq.{get_or-append_seam}
 use native.Mathlib.Nat as Nat
 use Rattle.irr_rat.specs.Lcm.{IsLcm}
+use Rattle.irr_rat.proofs.Multiples.{lcm_exists}
 use Rattle.irr_numeral.specs.declared.limits.TheConstants.{COEFFICIENT_LIMIT, DENOMINATOR_LIMIT}
 use Rattle.irr_numeral.specs.WrittenNumber.{WrittenTerm, AreTerms, spelled}
 use Rattle.irr_numeral.specs.WrittenValue.{IsCommonDenominator, IsMeasured, denominator_of, written_size}
@@ -23,7 +24,7 @@ use Rattle.irr_report.specs.ReportGrammar.{IsValueText}
 use Rattle.irr_report.specs.ReportLimits.{PassesTogether}
 use Rattle.irr_report.specs.ValueTexts.{IsScaleOf, IsJoined, CannotJoin}
 use Rattle.irr_report.specs.declared.scale.Scale.{Scale}
-use Rattle.irr_report.proofs.CommonScales.{all-one, common-both, common-some, lcm-exists, positive-terms, size-over, size-rises}
+use Rattle.irr_report.proofs.CommonScales.{all-one, common-both, common-some, positive-terms, size-over, size-rises}
 
 flat-more : (terms : List (List WrittenTerm)) (ts : List WrittenTerm) → flat_map (λ us. us) (terms ++ ts ∷ []) ≡ flat_map (λ us. us) terms ++ ts
 flat-more terms ts = flat_map-append (λ us. us) terms (ts ∷ []) ∙ ap (λ us. flat_map (λ vs. vs) terms ++ us) (append-nil ts)
@@ -147,7 +148,7 @@ pub passes-more : (texts : List (List ℕ)) (word : List ℕ) → PassesTogether
 passes-more texts word h v = with_common (common-some v.number.terms (positive-terms v.number.terms v.number.are_terms v.not_zero))
   where
     with_common : (e : ℕ) × IsCommonDenominator v.number.terms e → PassesTogether (texts ++ word ∷ [])
-    with_common (e, c) = with_multiple (lcm-exists h.denominator e h.common.positive)
+    with_common (e, c) = with_multiple (lcm_exists h.denominator e h.common.positive)
       where
         with_multiple : (m : ℕ) × IsLcm h.denominator e m → PassesTogether (texts ++ word ∷ [])
         with_multiple (m, l) = record {

@@ -7,7 +7,6 @@
 use Rattle.std.proofs.Common.{◌≡◌, sym, refl, ◌∙◌, ap, ap₂, subst, ℕ, zero, suc, ◌+◌ as ◌+ℕ◌, ◌*◌ as ◌*ℕ◌, ◌<◌, ◌≤◌, ◌%◌, ◌^◌, List, [], get_or, ℤ, pos, ◌+ℤ◌, ◌*ℤ◌, unsigned_abs, arith, mod-lt, mul-pos, lit<}
 use Rattle.std.specs.Int.{◌∣◌, IsGcd, w64}
 use Rattle.std.proofs.lemmas.Int.{fits_signed_from_abs}
-use Rattle.std.proofs.lemmas.Nat.Gcd.{IsGcd-from_zero, IsGcd-from_mod}
 use native.Mathlib.Nat as Nat
 use Rattle.irr_algebra.specs.Ring.{Ring, whole}
 use Rattle.irr_algebra.specs.Fin.{Fin, to_nat}
@@ -25,7 +24,7 @@ use Rattle.irr_rational.proofs.Ratios.{ratio_is, ratio-over, ratio-scale}
 use Rattle.irr_space.specs.Operation.{Operation, Rotation, Vector, component}
 use Rattle.irr_rat.specs.Lcm.{IsLcm}
 use Rattle.irr_rat.specs.VectorMeaning.{Fits, vector_of}
-use Rattle.irr_rat.proofs.Multiples.{lcm_of_gcd}
+use Rattle.irr_rat.proofs.Multiples.{lcm_exists}
 use Rattle.irr_rat.proofs.Vectors.{component-vector_of, component-add, vector-ext, each_of_three}
 use Rattle.irr_seitz.specs.Rotation.{rotation_of, IsWithin}
 use Rattle.irr_seitz.proofs.Rotations.{within_at}
@@ -90,18 +89,6 @@ turned_row_bound rot num m n hr hn i hi = weighted_sum (get_or (get_or rot i [])
 pub turned_bound : (rot : List (List ℤ)) (num t : List ℤ) (m n : ℕ) → IsWithin m (rotation_of rot) → ((i : Fin 3) → unsigned_abs (entry num i) ≤ n) → IsTurned rot num t
     → (i : Fin 3) → unsigned_abs (entry t i) ≤ (m *ℕ n +ℕ m *ℕ n) +ℕ m *ℕ n
 turned_bound rot num t m n hr hn e i = subst (λ a. unsigned_abs a ≤ (m *ℕ n +ℕ m *ℕ n) +ℕ m *ℕ n) (sym (turned_entry rot num t e i)) (turned_row_bound rot num m n hr hn (to_nat i) (to_nat-lt i))
-
--- the greatest common divisor exists
-gcd_exists : (b a : ℕ) → (g : ℕ) × IsGcd a b g
-gcd_exists = strong_induction (λ b. (a : ℕ) → (g : ℕ) × IsGcd a b g) step
-  where
-    step : (b : ℕ) → ((m : ℕ) → m < b → (a : ℕ) → (g : ℕ) × IsGcd a m g) → (a : ℕ) → (g : ℕ) × IsGcd a b g
-    step zero ih a = (a, IsGcd-from_zero a 0 refl)
-    step (suc b) ih a = let t : (g : ℕ) × IsGcd (suc b) (a % suc b) g = ih (a % suc b) (mod-lt a (omega arith)) (suc b) in (t.0, IsGcd-from_mod a (suc b) t.0 t.1)
-
--- and so does the least common multiple
-lcm_exists : (a b : ℕ) → 0 < a → (m : ℕ) × IsLcm a b m
-lcm_exists a b h = let t : (g : ℕ) × IsGcd a b g = gcd_exists b a in (_, lcm_of_gcd a b t.0 h t.1)
 
 -- two fractions over one denominator
 ratio-sum : (x y : ℤ) (d : ℕ) → 0 < d → ratio (x +ℤ y) d ≡ rationals.add (ratio x d) (ratio y d)

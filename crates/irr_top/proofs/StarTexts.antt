@@ -36,6 +36,7 @@ use Rattle.irr_little.specs.declared.LittleError.TheVariants.{OrderTooLarge, Mem
 use Rattle.irr_little.specs.declared.arms.Arm.{Arm}
 use Rattle.irr_little.proofs.Spaces.{form_of, has_canonical, numbering_of}
 use Rattle.irr_report.specs.Printed.{numbered, operation_text}
+use Rattle.irr_report.proofs.LineTexts.{head_regroup}
 use Rattle.irr_report.proofs.Pieces.{pieces-numbered}
 use Rattle.irr_check.proofs.Along.{order_along}
 use Rattle.irr_top.specs.StarText.{IsStarTextAt, IsStarText, IsNoStar, AreInList, head_text, arm_words, arm_text, factor, factors, listed_content}
@@ -171,10 +172,6 @@ listed_item ops n g d l is = is ∙ get_or_default ops n g d l
 pub head-parts : (w n a : List ℕ) → codes "star 1\nwave " ++ (w ++ (codes "\norder " ++ (n ++ (codes "\narms " ++ (a ++ codes "\n")))))
     ≡ line (codes "star 1") ++ line (codes "wave" ++ next_word w) ++ line (codes "order" ++ next_word n) ++ line (codes "arms" ++ next_word a)
 head-parts w n a = head_regroup (codes "star 1\n") (codes "wave ") (codes "order ") (codes "arms ") (10 ∷ []) w n a
-  where
-    head_regroup : (r w o p l a n h : List ℕ) → r ++ (w ++ (a ++ (l ++ (o ++ (n ++ (l ++ (p ++ (h ++ l))))))))
-        ≡ ((r ++ ((w ++ a) ++ l)) ++ ((o ++ n) ++ l)) ++ ((p ++ h) ++ l)
-    head_regroup r w o p l a n h = simp append_assoc
 
 factor-parts : (before k t : List ℕ) → ((before ++ (codes "factor " ++ k)) ++ t) ++ 10 ∷ [] ≡ before ++ line (codes "factor" ++ next_word k ++ t)
 factor-parts before k t = simp append_assoc

@@ -1,8 +1,7 @@
 -- The least common multiple of the denominators, and the sizes over it.
 use Rattle.std.proofs.Common.{◌<◌, ◌*◌, ◌/◌, subst, arith, inl, inr}
-use Rattle.irr_rat.proofs.Multiples.{lcm_of_gcd}
+use Rattle.irr_rat.proofs.Multiples.{lcm_of_gcd, lcm_positive}
 use Rattle.irr_numeral.specs.declared.limits.TheConstants.{COEFFICIENT_LIMIT}
-use Rattle.irr_numeral.proofs.CommonDenominators.{lcm-positive}
 use Rattle.irr_report.proofs.scale.Scale.joined.Goals.{then-earlier-later, else-earlier-later}
 use Rattle.irr_report.proofs.scale.Scale.joined.Goals as goal
 
@@ -25,7 +24,7 @@ returns-then-greatest-gt-COEFFICIENT_LIMIT-clause-none c = λ _. (
 
 pub invariant_of-result : goal.invariant_of-result
 invariant_of-result c = record {
-  positive = lcm-positive c.args.self.denominator c.args.denominator (c.args.self.denominator / c.gcd.result * c.args.denominator) c.args.self.positive c.requires.positive
+  positive = lcm_positive c.args.self.denominator c.args.denominator (c.args.self.denominator / c.gcd.result * c.args.denominator) c.args.self.positive c.requires.positive
       (lcm_of_gcd c.args.self.denominator c.args.denominator c.gcd.result c.args.self.positive c.gcd.ensures);
   denominator_within = omega (arith, c.if-common-gt-DENOMINATOR_LIMIT.false);
   size_within = omega (arith, c.if-greatest-gt-COEFFICIENT_LIMIT.false);
