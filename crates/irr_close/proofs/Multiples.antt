@@ -4,7 +4,7 @@
 --   too_large                    a multiple above the limit shows that there is no small common denominator
 --   no_multiple                  and so does a multiple past the numbers of 64 bits
 --   small_of_least               the least common multiple of all
-use Rattle.std.proofs.Common.{◌≡◌, sym, ◌∙◌, ap, subst, refl, ℕ, zero, suc, ◌<◌, ◌≤◌, ◌+◌, ◌*◌, ◌%◌, ◌^◌, inl, inr, List, length, get_or, arith, mod-lt, mul-pos}
+use Rattle.std.proofs.Common.{◌≡◌, sym, ◌∙◌, ap, subst, ℕ, ◌<◌, ◌≤◌, ◌+◌, ◌^◌, inl, inr, List, length, get_or, arith}
 use Rattle.std.specs.List.{All, HoldsAt}
 use Rattle.std.specs.Int.{◌∣◌}
 use Rattle.std.proofs.lemmas.List.{get_or_default}

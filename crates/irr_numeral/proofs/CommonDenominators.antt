@@ -5,14 +5,13 @@
 --   positive-term     a denominator that is not 0 is above 0
 --   common-exists     there is one
 --   common-beyond     where that of the first terms passes a limit, that of all does
-use Rattle.std.proofs.Common.{◌≡◌, refl, sym, ◌∙◌, ap, subst, ℕ, zero, suc, ◌%◌, mod-lt, Option, None, Some, IfSome, inl, inr, length-append, ◌<◌, ◌≤◌, ◌+◌, ◌*◌, List, [], ◌∷◌, ◌++◌, length, get_or, take, map, All, arith}
-use Rattle.std.specs.Int.{◌∣◌, IsGcd}
+use Rattle.std.proofs.Common.{◌≡◌, sym, ◌∙◌, ap, subst, ℕ, zero, suc, Option, None, Some, IfSome, inl, inr, length-append, ◌<◌, ◌≤◌, ◌+◌, List, [], ◌∷◌, ◌++◌, length, get_or, take, map, All, arith}
+use Rattle.std.specs.Int.{◌∣◌}
 use Rattle.std.proofs.lemmas.List.{get_or-map, length-map, get_or_append_left, take_all}
 use Rattle.std.proofs.Math.Seq.{take-suc, get_or-append_seam}
 use Rattle.std.proofs.lemmas.List.Elements.{All-append, All-take}
-use Rattle.std.proofs.lemmas.Nat.Gcd.{dvd_trans, le_of_dvd, IsGcd-from_zero, IsGcd-from_mod}
+use Rattle.std.proofs.lemmas.Nat.Gcd.{dvd_trans, le_of_dvd}
 use native.Mathlib.Nat as Nat
-use Rattle.irr_number.proofs.Primes.{divisor_pos, strong_induction}
 use Rattle.irr_rat.proofs.Multiples.{lcm_exists, lcm_positive}
 use Rattle.std.specs.Str.Parse.{digits_value}
 use Rattle.irr_numeral.proofs.ExponentOrder.{exponent_of_whole}

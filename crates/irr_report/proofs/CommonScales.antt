@@ -3,13 +3,13 @@
 --   common-some     terms with no denominator 0 have one
 --   size-over       the size over a multiple of a common denominator
 --   size-rises      it is not less
-use Rattle.std.proofs.Common.{◌≡◌, refl, sym, ◌∙◌, ap, ap₂, subst, ℕ, zero, suc, ◌<◌, ◌≤◌, ◌+◌, ◌*◌, ◌/◌, ◌%◌, List, [], ◌∷◌, ◌++◌, length, length-append, get_or, All, arith, Option, None, Some, IfSome}
-use Rattle.std.specs.Int.{◌∣◌, IsGcd}
+use Rattle.std.proofs.Common.{◌≡◌, sym, ◌∙◌, ap, ap₂, subst, ℕ, zero, suc, ◌<◌, ◌≤◌, ◌+◌, ◌*◌, ◌/◌, List, [], ◌∷◌, ◌++◌, length, length-append, get_or, All, arith, Option, None, Some, IfSome}
+use Rattle.std.specs.Int.{◌∣◌}
 use Rattle.std.specs.Str.Parse.{digits_value}
 use Rattle.std.proofs.lemmas.List.{get_or_append_left, get_or-append-add}
 use Rattle.std.proofs.lemmas.List.Elements.{All-append}
 use Rattle.std.proofs.lemmas.List.Sums.{sum_by-cons}
-use Rattle.std.proofs.lemmas.Nat.Gcd.{dvd_trans, IsGcd-from_zero, IsGcd-from_mod}
+use Rattle.std.proofs.lemmas.Nat.Gcd.{dvd_trans}
 use native.Mathlib.Nat as Nat
 use Rattle.irr_number.proofs.Primes.{divisor_pos}
 use Rattle.irr_rat.specs.Lcm.{IsLcm}

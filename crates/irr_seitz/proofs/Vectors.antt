@@ -4,8 +4,8 @@
 --   turned_vector          a rotation times a vector over its denominator
 --   fits_over_lcm          a sum fits where the least common denominator and the numerators are small
 --   operation-ext          operations are the same where their parts are
-use Rattle.std.proofs.Common.{◌≡◌, sym, refl, ◌∙◌, ap, ap₂, subst, ℕ, zero, suc, ◌+◌ as ◌+ℕ◌, ◌*◌ as ◌*ℕ◌, ◌<◌, ◌≤◌, ◌%◌, ◌^◌, List, [], get_or, ℤ, pos, ◌+ℤ◌, ◌*ℤ◌, unsigned_abs, arith, mod-lt, mul-pos, lit<}
-use Rattle.std.specs.Int.{◌∣◌, IsGcd, w64}
+use Rattle.std.proofs.Common.{◌≡◌, sym, refl, ◌∙◌, ap, ap₂, subst, ℕ, ◌+◌ as ◌+ℕ◌, ◌*◌ as ◌*ℕ◌, ◌<◌, ◌≤◌, ◌^◌, List, [], get_or, ℤ, pos, ◌+ℤ◌, ◌*ℤ◌, unsigned_abs, arith, mul-pos, lit<}
+use Rattle.std.specs.Int.{◌∣◌, w64}
 use Rattle.std.proofs.lemmas.Int.{fits_signed_from_abs}
 use native.Mathlib.Nat as Nat
 use Rattle.irr_algebra.specs.Ring.{Ring, whole}
@@ -15,7 +15,7 @@ use Rattle.irr_algebra.specs.Sum.{sum}
 use Rattle.irr_algebra.specs.Matrix.{◌·◌, ◌⊕◌}
 use Rattle.irr_algebra.proofs.Rings.{mul_left_comm}
 use Rattle.irr_algebra.proofs.Indices.{to_nat-lt}
-use Rattle.irr_number.proofs.Primes.{cofactor, divisor_pos, strong_induction}
+use Rattle.irr_number.proofs.Primes.{cofactor, divisor_pos}
 use Rattle.irr_rational.specs.Integer.{integer, whole_matrix}
 use Rattle.irr_rational.specs.Rational.{rationals, ratio}
 use Rattle.irr_rational.specs.Ratio.{entry, ratios}
