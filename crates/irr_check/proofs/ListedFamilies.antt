@@ -32,7 +32,7 @@ use Rattle.irr_check.specs.Families.{Families}
 use Rattle.irr_check.specs.Faults.{IsFirstFault, IsSound, own}
 use Rattle.irr_check.specs.Listed.{IsFirstFaulty, IsSmallFault, families_of, fault_verdict}
 use Rattle.irr_check.specs.Pairs.{AreApart, IsFirstBehind, IsFirstPair}
-use Rattle.irr_check.specs.Trials.{Passes, PassesAll, PassesInequivalent, PassesIrreducible, Trial}
+use Rattle.irr_check.specs.Trials.{Passes, PassesAll, PassesInequivalent, PassesIrreducible}
 use Rattle.irr_check.specs.Trials.Reading.{dimensions}
 use Rattle.irr_check.specs.Trials.Trial.{all, at_product, at_trace, at_unit, inequivalent, irreducible}
 use Rattle.irr_check.specs.Verdict.{IsFamiliesVerdict, verdict_at}
@@ -166,9 +166,6 @@ module _ {S : Type 0} {G : Ghosts S} {h : ℕ} (T : PhaseTable h) (reps : List (
     }
 
     module _ (sound : (k : Fin (length reps)) → to_nat k < to_nat m → IsSoundAt T families k) where
-      abbrev IsFailed : Trial (length reps) h → Type 0
-      IsFailed t = IsFamiliesVerdict dimensions T families (verdict_at t)
-
       fault_at : (f : Fault) → IsFirstFault T r (Some f) → IsFamiliesVerdict dimensions T families (fault_verdict (to_nat m) f)
       unfolding IsFirstFault IsFirstDefect IsFirstFailure fault_verdict verdict_at
       fault_at (Defect no_unit) p = fails (at_unit m) (first_unit T families m sound (λ q. p (unit_back q)))

@@ -3,7 +3,7 @@
 --   RootsSoFar           the first k numbers of a row of powers of z
 --   roots-none, roots-more, limited_roots
 --   two_pushed, all_two  lists of two
-use Rattle.std.proofs.Common.{◌≡◌, sym, ◌∙◌, ap, subst, refl, ℕ, ◌+◌, ◌^◌, ◌<◌, ◌≤◌, List, [], ◌∷◌, ◌++◌, length, length-append, map, get_or, All, arith}
+use Rattle.std.proofs.Common.{◌≡◌, sym, ◌∙◌, ap, subst, refl, ℕ, ◌+◌, ◌^◌, ◌<◌, List, [], ◌∷◌, ◌++◌, length, length-append, map, All, arith}
 use Rattle.std.proofs.lemmas.List.Elements.{All-nil, All-push}
 use Rattle.std.proofs.lemmas.List.{get_or-map}
 use Rattle.irr_algebra.specs.Fin.{Fin, to_nat}

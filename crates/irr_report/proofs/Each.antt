@@ -1,7 +1,6 @@
 -- Lists that are related item by item.
 --   each-length            they are as long
 --   each-more              one more item
---   each-maps              of what stands for the items
 --   each-at                at a place
 --   each-of_read           what is read of texts
 --   untruncated            equations of numbers from what is only known to be
@@ -26,13 +25,6 @@ each-more R [] [] x y h r = (r, tt)
 each-more R [] (b ∷ ys) x y h r = absurd h
 each-more R (a ∷ xs) [] x y h r = absurd h
 each-more R (a ∷ xs) (b ∷ ys) x y h r = (h.0, each-more R xs ys x y h.1 r)
-
-pub each-maps : {A B C D : Type 0} (R : A → B → Type 0) (Q : C → D → Type 0) (f : A → C) (g : B → D) → ((a : A) (b : B) → R a b → Q (f a) (g b))
-    → (xs : List A) (ys : List B) → AreEach R xs ys → AreEach Q (map f xs) (map g ys)
-each-maps R Q f g k [] [] h = tt
-each-maps R Q f g k [] (y ∷ ys) h = absurd h
-each-maps R Q f g k (x ∷ xs) [] h = absurd h
-each-maps R Q f g k (x ∷ xs) (y ∷ ys) h = (k x y h.0, each-maps R Q f g k xs ys h.1)
 
 pub each-image : {A B D : Type 0} (R : A → B → Type 0) (Q : A → D → Type 0) (g : B → D) → ((a : A) (b : B) → R a b → Q a (g b))
     → (xs : List A) (ys : List B) → AreEach R xs ys → AreEach Q xs (map g ys)

@@ -5,11 +5,11 @@
 --   pieces-numbered       pieces of the numbered items of a list
 --   flat_map_step, numbered_step, rows_step     one more item, and one more row of items
 --   row_item              the item at a row and a column
-use Rattle.std.proofs.Common.{◌≡◌, sym, ◌∙◌, ap, ap₂, subst, refl, ℕ, zero, suc, ◌+◌, ◌*◌, ◌<◌, ◌≤◌, List, [], ◌∷◌, ◌++◌, append-nil, append_assoc, length, length-drop, ◌-◌, get_or, take, drop, Some, zero-mul, suc-mul, arith}
+use Rattle.std.proofs.Common.{◌≡◌, sym, ◌∙◌, ap, ap₂, subst, refl, ℕ, zero, suc, ◌+◌, ◌*◌, ◌<◌, List, [], ◌∷◌, ◌++◌, append-nil, append_assoc, length, length-drop, ◌-◌, get_or, take, drop, Some, zero-mul, suc-mul, arith}
 use Rattle.std.specs.List.{flat_map}
 use Rattle.std.specs.Prelude.{slice_get}
 use Rattle.std.proofs.Math.Seq.{take-add}
-use Rattle.std.proofs.lemmas.List.{flat_map_more, take_more, take_all, length-take-le, get_or-drop}
+use Rattle.std.proofs.lemmas.List.{flat_map_more, take_more, length-take-le, get_or-drop}
 use Rattle.std.proofs.lemmas.List.Concat.{flat_map-append}
 use Rattle.std.proofs.lemmas.Option.{get_or_from_slice_get, slice_get_within}
 use Rattle.irr_algebra.specs.Fin.{Fin, to_nat}
@@ -33,11 +33,6 @@ pub pieces-below : (n : ℕ) (f : ℕ → List ℕ) → pieces n (λ i. f (to_na
 unfolding pieces pieces_below to_nat
 pieces-below zero f = refl
 pieces-below (suc n) f = ap (λ x. f 0 ++ x) (pieces-below n (λ k. f (suc k))) ∙ sym (pieces_below-suc n f)
-
-pieces_below-same : (n : ℕ) (f g : ℕ → List ℕ) → ((k : ℕ) → f k ≡ g k) → pieces_below n f ≡ pieces_below n g
-unfolding pieces_below
-pieces_below-same zero f g e = refl
-pieces_below-same (suc n) f g e = ap₂ (λ x y. x ++ y) (pieces_below-same n f g e) (e n)
 
 plus_zero : (m : ℕ) → m + 0 ≡ m
 plus_zero m = omega arith
@@ -120,10 +115,6 @@ numbered_step g before text xs i x lt is t = ap (λ u. u ++ g (i + 1) x) t ∙ a
   where
     number : i + 1 ≡ 1 + length (take i xs)
     number = let e : length (take i xs) ≡ i = length-take-le i xs (omega arith) in omega (arith, e)
-
-pub numbered_all : {A : Type 0} (g : ℕ → A → List ℕ) (before text : List ℕ) (xs : List A) (i : ℕ) → length xs ≤ i
-    → text ≡ before ++ numbered g 1 (take i xs) → text ≡ before ++ numbered g 1 xs
-numbered_all g before text xs i le t = t ∙ ap (λ ys. before ++ numbered g 1 ys) (take_all i xs le)
 
 -- one more row of c items
 pub rows_step : {A : Type 0} (f : A → List ℕ) (before text : List ℕ) (xs : List A) (i c : ℕ) → text ≡ before ++ flat_map f (take (i * c) xs)

@@ -29,7 +29,7 @@ use Rattle.irr_report.specs.ReportLines.{WrittenRepresentation, triplet_line, di
 use Rattle.irr_report.specs.ReportGrammar.{IsWholeNumber}
 use Rattle.irr_report.specs.ReportLimits.{PassesIn}
 use Rattle.irr_report.specs.ReportSteps.{Body, State, Step, Passes, IsFilled, with_matrix, without_matrices, report_of}
-use Rattle.irr_report.specs.ReportSteps.State.{untitled, titled, waved, ordered, listing, counted, sized, filling, closed}
+use Rattle.irr_report.specs.ReportSteps.State.{titled, waved, ordered, listing, counted, sized, filling, closed}
 use Rattle.irr_report.specs.ReportFault.{IsWave, IsTriplet}
 use Rattle.irr_report.specs.Digits.{IsDigitsFault}
 use Rattle.irr_report.specs.ValueTexts.{IsScaleOf, AreRead}
@@ -67,22 +67,10 @@ memory_fails M line = record { fails = λ s m. tt }
 
 -- the title
 
-title_words : (line : List ℕ) → line ≢ codes "report 1" → IsStepFault untitled line errors.Line
-title_words line absent t d = absent d.0
-
-pub title-fails : (line : List ℕ) → line ≢ codes "report 1" → StepFails (λ s. s ≡ untitled) line errors.Line
-title-fails line absent = record { fails = λ s e. subst (λ u. IsStepFault u line errors.Line) (sym e) (title_words line absent) }
-
-pub title-steps : {S : Type 0} {G : Ghosts S} (line : List ℕ) → line ≡ codes "report 1" → StepsTo {S = S} {G = G} (λ s. s ≡ untitled) line stages.Titled
-title-steps {S = S} {G = G} line l = record { steps = λ s e. subst (λ u. IsStepTo {S = S} {G = G} u line stages.Titled) (sym e) (record { to = titled; step = (l, refl); within = λ p. p; means = refl }) }
-
 -- the wave vector
 
 wave_has : (line : List ℕ) → HasWords IsWave (codes "wave ") titled line
 wave_has line t d = (d.0, d.1, d.2)
-
-pub wave-no_words : (line : List ℕ) → ((rest : List ℕ) → line ≢ codes "wave " ++ rest) → StepFails (λ s. s ≡ titled) line errors.Line
-wave-no_words line absent = record { fails = λ s e. subst (λ u. IsStepFault u line errors.Line) (sym e) (no-words IsWave (codes "wave ") line titled (wave_has line) absent) }
 
 pub wave-fails : (line text : List ℕ) → line ≡ codes "wave " ++ text → ¬ (IsWave text) → StepFails (λ s. s ≡ titled) line errors.Line
 wave-fails line text l absent = record { fails = λ s e. subst (λ u. IsStepFault u line errors.Line) (sym e) (no-text IsWave (codes "wave ") text line titled (wave_has line) l absent) }

@@ -1,24 +1,16 @@
 -- The parts of a printed report.
 --   listed n f         the list f 0, .., f (n - 1)
---   IsPrintedWave text, IsPrintedTriplet text     the text is the printed form of a wave vector, of an operation
 --   written_of r       what stands in the text of the report r, part by part
-use Rattle.std.specs.Prelude.{ℕ, zero, suc, ◌≡◌, List, [], ◌∷◌}
+use Rattle.std.specs.Prelude.{ℕ, zero, suc, List, [], ◌∷◌}
 use Rattle.std.specs.List.{flat_map}
 use Rattle.std.specs.Fmt.{decimal}
 use Rattle.irr_algebra.specs.Fin.{Fin}
 use Rattle.irr_algebra.specs.Fin.Fin.{first, next}
-use Rattle.irr_space.specs.Operation.{Operation, WaveVector}
 use Rattle.irr_text.specs.NumberText.{number_text}
 use Rattle.irr_text.specs.WaveText.{wave_text}
 use Rattle.irr_text.specs.TripletText.{triplet_text}
 use Rattle.irr_text.specs.ReportText.{ReportContent}
 use Rattle.irr_report.specs.ReportLines.{WrittenReport, WrittenRepresentation}
-
-abbrev pub IsPrintedWave : List ℕ → Type 0
-IsPrintedWave text = (k : WaveVector) × (text ≡ wave_text k)
-
-abbrev pub IsPrintedTriplet : List ℕ → Type 0
-IsPrintedTriplet text = (g : Operation) × (text ≡ triplet_text g)
 
 unfoldable pub listed : {A : Type 0} (n : ℕ) → (Fin n → A) → List A
 listed zero f = []
