@@ -1,5 +1,6 @@
 pub mod Pieces
 pub mod LineTexts
+pub mod ZeroTexts
 pub mod Contents
 pub mod ListReports
 pub mod PrintedReports

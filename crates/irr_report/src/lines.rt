@@ -97,6 +97,10 @@ fn push_row<S: Scalar>(alloc: Global, text: &mut Vec<u8>, m: &Mat<S>, i: u32) ->
 fn push_value<S: Scalar>(alloc: Global, text: &mut Vec<u8>, x: &S) -> Result<(), Memory>
     ensures { OnOk result (text.new.items ≡ text.old.items ++ value_word S.order_of S.value x.now) }
 {
+    if x.is_zero() {
+        text.extend_from_slice(b" 0")?;
+        return Ok(());
+    }
     let number = print_number(alloc, x)?;
     text.push(b' ')?;
     text.extend_from_slice(&number)?;
