@@ -9,8 +9,7 @@ ghost use Rattle.irr_cyc.specs.Form.{IsForm, at};
 use crate::lowest::to_lowest_terms;
 use crate::orders::{ORDER_LIMIT, Order};
 use crate::polynomials::{
-    add_terms, are_same, are_zeros, combination, multiples, nonzero, product, stretched, sums,
-    zeros,
+    add_terms, are_same, are_zeros, combination, multiples, nonzero, product, stretched, zeros,
 };
 use crate::reduction::reduce;
 use crate::scalars::{Canon, Lift, Scalar};
@@ -96,10 +95,12 @@ impl Scalar for Dense {
 
     fn add(&self, alloc: Global, other: &Dense) -> Result<Dense, Memory> {
         if self.den == other.den {
-            let sums = sums(
+            let sums = combination(
                 alloc,
                 self.coefficients.as_slice(),
+                1,
                 other.coefficients.as_slice(),
+                1,
             )?;
             return Ok(Dense::in_basis(sums, self.den));
         }

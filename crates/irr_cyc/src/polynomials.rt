@@ -41,20 +41,6 @@ pub(crate) fn are_same(xs: &[i128], ys: &[i128]) -> bool
     true
 }
 
-/// The sums, place by place.
-pub(crate) fn sums(alloc: Global, xs: &[i128], ys: &[i128]) -> Result<Vec<i128>, Memory>
-    requires same { length ys.now ≡ length xs.now }
-    requires small { (j : ℕ) → j < length xs.now → unsigned_abs (at xs.now j) + unsigned_abs (at ys.now j) < 2 ^ 110 }
-    ensures len { IfOk result (λ v. length v.items ≡ length xs.now) }
-    ensures value { IfOk result (λ v. (j : ℕ) → j < length xs.now → at v.items j ≡ at xs.now j +ℤ at ys.now j) }
-{
-    let mut sums = Vec::with_capacity(alloc, xs.len())?;
-    for i in 0..xs.len() {
-        sums.push(xs[i] + ys[i])?;
-    }
-    Ok(sums)
-}
-
 /// The sums of x left and y right, place by place.
 pub(crate) fn combination(
     alloc: Global,

@@ -1,8 +1,6 @@
 -- Sums of canonical forms are canonical forms.
-use Rattle.std.proofs.Common.{◌≡◌, sym, ◌∙◌, ap, ap₂, rules, ℕ, ℤ, List, pos, ◌+◌, ◌*◌, ◌+ℤ◌, ◌*ℤ◌, ◌<◌, ◌≤◌, ◌^◌, length, unsigned_abs, to_z, of_z, arith}
+use Rattle.std.proofs.Common.{◌≡◌, ◌∙◌, ap, rules, ℕ, ℤ, pos, ◌*◌, ◌<◌, ◌≤◌, ◌^◌, length, unsigned_abs, to_z, of_z, arith}
 use mir.Syntax.{w128}
-use Rattle.irr_number.specs.Integers.{integers}
-use Rattle.irr_cyc.specs.Form.{at}
 use Rattle.irr_cyc.proofs.Combined.{add-same_value, add-value, combined-basis, entries-of, entry-bound, factors, product-bound, slices-bound, through}
 use Rattle.irr_cyc.proofs.Written.{kept}
 use Rattle.irr_cyc.proofs.coefficients.DenseScalar.add.Goals as goal
@@ -11,29 +9,18 @@ use Rattle.irr_cyc.proofs.coefficients.DenseScalar.add.Goals as goal
 read : (z : ℤ) (d : ℕ) → z ≡ pos d → d < 2 ^ 64 → to_z w128 (of_z w128 z) ≡ pos d
 read z d e h = let l : unsigned_abs z ≡ d = ap unsigned_abs e in kept z (omega arith) ∙ e
 
--- entries without factors
-plain-bound : (a b : ℤ) → unsigned_abs a * 1 + unsigned_abs b * 1 < 2 ^ 110 → unsigned_abs a + unsigned_abs b < 2 ^ 110
-plain-bound a b h = omega arith
-
-pub sums-requires-clause-small : goal.sums-requires-clause-small
-sums-requires-clause-small c = λ j l. plain-bound (at c.as_slice.result.now j) (at c.as_slice-then-self-other.result.now j)
-    (slices-bound c.as_slice.result.now c.args.self.now.coefficients.items c.as_slice-then-self-other.result.now c.args.other.now.coefficients.items 1 1 (2 ^ 110) c.as_slice.ensures.value c.as_slice-then-self-other.ensures.value
-    (entry-bound c.args.self.now.coefficients.items c.args.other.now.coefficients.items c.args.self.now.den c.args.other.now.den c.args.self.now.form c.args.other.now.form c.requires.orders c.requires.sizes 1 1 c.args.other.now.form.positive c.args.self.now.form.positive) j l)
-
--- the sums of the entries of the two lists
-sums_of : (left xs right ys zs : List ℤ) → left ≡ xs → right ≡ ys → ((j : ℕ) → j < length left → at zs j ≡ at left j +ℤ at right j)
-    → (j : ℕ) → j < length xs → at zs j ≡ (at xs j *ℤ pos 1) +ℤ (at ys j *ℤ pos 1)
-sums_of left xs right ys zs p q h = entries-of left xs right ys zs (pos 1) (pos 1) p q
-    (λ j l. h j l ∙ ap₂ ◌+ℤ◌ (sym (integers.mul-one (at left j))) (sym (integers.mul-one (at right j))))
+pub combination-requires-clause-small : goal.combination-requires-clause-small
+combination-requires-clause-small c = slices-bound c.as_slice.result.now c.args.self.now.coefficients.items c.as_slice-then-self-other.result.now c.args.other.now.coefficients.items 1 1 (2 ^ 110) c.as_slice.ensures.value c.as_slice-then-self-other.ensures.value
+    (entry-bound c.args.self.now.coefficients.items c.args.other.now.coefficients.items c.args.self.now.den c.args.other.now.den c.args.self.now.form c.args.other.now.form c.requires.orders c.requires.sizes 1 1 c.args.other.now.form.positive c.args.self.now.form.positive)
 
 pub in_basis-requires-clause-basis : goal.in_basis-requires-clause-basis
 in_basis-requires-clause-basis c = combined-basis c.args.self.now.coefficients.items c.args.other.now.coefficients.items c.args.self.now.den c.args.other.now.den c.args.self.now.form c.args.other.now.form c.requires.orders c.in_ok-sums.sums.items (pos 1) (pos 1) (c.in_ok-sums.ensures.len ∙ ap length c.as_slice.ensures.value)
-    (sums_of c.as_slice.result.now c.args.self.now.coefficients.items c.as_slice-then-self-other.result.now c.args.other.now.coefficients.items c.in_ok-sums.sums.items c.as_slice.ensures.value c.as_slice-then-self-other.ensures.value c.in_ok-sums.ensures.value)
+    (entries-of c.as_slice.result.now c.args.self.now.coefficients.items c.as_slice-then-self-other.result.now c.args.other.now.coefficients.items c.in_ok-sums.sums.items (pos 1) (pos 1) c.as_slice.ensures.value c.as_slice-then-self-other.ensures.value c.in_ok-sums.ensures.value)
 
 pub returns-then-self-other-clause-value : goal.returns-then-self-other-clause-value
 returns-then-self-other-clause-value c = through (length c.args.self.now.coefficients.items) (length c.in_ok-sums.sums.items) c.in_basis.result.coefficients.items c.in_ok-sums.sums.items c.in_basis.result.den c.args.self.now.den (c.in_ok-sums.ensures.len ∙ ap length c.as_slice.ensures.value) c.in_basis.ensures.value
     ∙ add-same_value c.args.self.now.coefficients.items c.args.other.now.coefficients.items c.args.self.now.den c.args.other.now.den c.args.self.now.form c.args.other.now.form c.requires.orders c.in_ok-sums.sums.items c.if-self-other.true
-    (sums_of c.as_slice.result.now c.args.self.now.coefficients.items c.as_slice-then-self-other.result.now c.args.other.now.coefficients.items c.in_ok-sums.sums.items c.as_slice.ensures.value c.as_slice-then-self-other.ensures.value c.in_ok-sums.ensures.value)
+    (entries-of c.as_slice.result.now c.args.self.now.coefficients.items c.as_slice-then-self-other.result.now c.args.other.now.coefficients.items c.in_ok-sums.sums.items (pos 1) (pos 1) c.as_slice.ensures.value c.as_slice-then-self-other.ensures.value c.in_ok-sums.ensures.value)
 
 pub overflow_mul-self : goal.overflow_mul-self
 overflow_mul-self c =
@@ -41,8 +28,8 @@ overflow_mul-self c =
     let below : c.args.self.now.den * c.args.other.now.den < 2 ^ 64 = omega arith in
     search rules
 
-pub combination-requires-clause-small : goal.combination-requires-clause-small
-combination-requires-clause-small c =
+pub combination-requires-2-clause-small : goal.combination-requires-2-clause-small
+combination-requires-2-clause-small c =
     let d64 : c.args.self.now.den < 2 ^ 64 = search rules in
     let e64 : c.args.other.now.den < 2 ^ 64 = search rules in
     let u : unsigned_abs (to_z w128 (of_z w128 c.from.result)) ≡ c.args.other.now.den = ap unsigned_abs (read c.from.result c.args.other.now.den c.from.ensures e64) in
