@@ -11,7 +11,6 @@ pub mod Members
 pub mod ModestLists
 pub mod SmallTexts
 pub mod Reports
-pub mod Numbers
 pub mod RequestWords
 pub mod FirstPieces
 pub mod FirstArms

@@ -1,8 +1,6 @@
 -- Words and bytes ask for one status.
---   Agree s t          s and t are one status, or neither tells of a limit, a fault or a verdict of no
---   asked_status       what is asked for agrees
---   asked_one          and is one status, where tables have steps
-use Rattle.std.proofs.Common.{◌≡◌, ◌≢◌, refl, sym, ◌∙◌, ap, ap₂, subst, ℕ, ◌+◌, ◌<◌, ◌≤◌, ◌⊎◌, inl, inr, List, Option, Some, None, length, arith}
+--   asked_one          what is asked for is one status
+use Rattle.std.proofs.Common.{◌≡◌, ◌≢◌, refl, sym, ◌∙◌, ap, ap₂, subst, ℕ, ◌+◌, ◌<◌, ◌≤◌, List, Option, Some, None, length, arith}
 use Rattle.irr_space.specs.Operation.{WaveVector}
 use Rattle.irr_space.specs.SpaceGroup.{Generated}
 use Rattle.irr_space.specs.Reciprocal.{IsOrder}
@@ -21,14 +19,15 @@ use Rattle.irr_close.specs.Limits.{operations}
 use Rattle.irr_close.specs.StandsFor.{IsRefusal, IsAccepted}
 use Rattle.irr_close.specs.declared.CloseError.{CloseError}
 use Rattle.irr_close.specs.declared.CloseError.TheVariants.{Rotations as many_rotations, Denominator as large_denominator, Centrings as many_centrings, Memory as no_memory}
+use Rattle.irr_check.specs.Trials.Reading.{meaning}
+use Rattle.irr_check.specs.Verdict.{IsVerdict}
 use Rattle.irr_check.specs.declared.verdict.Verdict.{Verdict}
-use Rattle.irr_check.specs.declared.verdict.Verdict.TheVariants.{No, Yes}
 use Rattle.irr_check.proofs.OneTable.{order_unique}
+use Rattle.irr_check.proofs.OneVerdict.{one_verdict}
 use Rattle.irr_top.specs.GroupOf.{group_of}
-use Rattle.irr_top.specs.Judged.{IsJudged}
 use Rattle.irr_top.specs.VerdictText.{verdict_status}
-use Rattle.irr_top.specs.Asked.{Asks, HaveSteps, IsAsked, IsPastLimits, input_limit, order_limit}
-use Rattle.irr_top.specs.Asked.Asks.{usage, too_long, faulty_line, limited_line, no_report, rotations, denominator, centrings, order_too_large, star, report, unchained, verdict}
+use Rattle.irr_top.specs.Asked.{Asks, IsAsked, input_limit, order_limit}
+use Rattle.irr_top.specs.Asked.Asks.{usage, too_long, faulty_line, limited_line, no_report, rotations, denominator, centrings, order_too_large, star, report, verdict}
 use Rattle.irr_top.specs.Request.{command_of, HasSections, IsCommand, IsFaultyWord, IsRequested, IsWaveAsked}
 use Rattle.irr_top.specs.declared.request.Request.{Request}
 use Rattle.irr_top.specs.declared.request.Request.TheVariants.{Star, Small, Check}
@@ -36,12 +35,7 @@ use Rattle.irr_top.specs.declared.status.Status.{Status}
 use Rattle.irr_top.specs.declared.status.Status.TheVariants.{Done, Usage, BadInput, TooLarge, Memory}
 use Rattle.irr_top.specs.declared.status.Kind.TheVariants.{Bytes, Report, Rotations, Denominator, Centrings, Order}
 use Rattle.irr_top.proofs.LineNumbers.{line_count_once}
-use Rattle.irr_top.proofs.Judgements.{judged_once}
 use Rattle.irr_top.proofs.SameGenerators.{AreSame, same_placed, operations_same, refusal_along, accepted_along}
-
--- one status, or two that tell of no limit, no fault and no verdict of no
-abbrev pub Agree : Status → Status → Type 0
-Agree s t = (s ≡ t) ⊎ (IsPastLimits s × IsPastLimits t)
 
 -- what is wrong with an input
 data Wrong (words : List (List ℕ)) (bytes : List ℕ) : Status → Type 0 where
@@ -78,8 +72,8 @@ same_check Check Check h i = tt
 
 -- where no limit is passed
 data After (q : Request) (content : Option ReportContent) (gens : List Op) (s : Status) : Type 0 where
-  past : ¬ (IsCheck q) → IsPastLimits s → After q content gens s
-  judged : IsCheck q → (r : ReportContent) (v : Verdict) → content ≡ Some r → IsJudged minus (group_of gens) r v → s ≡ verdict_status v
+  past : ¬ (IsCheck q) → s ≡ Done → After q content gens s
+  judged : IsCheck q → (r : ReportContent) (v : Verdict) → content ≡ Some r → IsVerdict meaning minus (group_of gens) r v → s ≡ verdict_status v
       → After q content gens s
 
 -- at a wave vector of a group
@@ -130,11 +124,9 @@ module _ (words : List (List ℕ)) (bytes : List ℕ) where
   stage (centrings {content = content} r gens a f) = refused_late r gens content a many_centrings (λ e. cc) f refl
   stage (order_too_large {content = content} r gens w a i at o l) = late r gens content a w at (accepted i (order_is_large o l))
   stage (star {content = content} k gens c a i o l is) = late (Star k) gens content a (wave_vector k) refl
-      (accepted i (is_within o l (past (λ e. e) tt)))
+      (accepted i (is_within o l (past (λ e. e) refl)))
   stage (report {content = content} k gens r a i o l is) = late (Small k) gens content a (wave_vector k) refl
-      (accepted i (is_within o l (past (λ e. e) tt)))
-  stage (unchained {content = content} k gens T a i o l at u) = late (Small k) gens content a (wave_vector k) refl
-      (accepted i (is_within o l (past (λ e. e) tt)))
+      (accepted i (is_within o l (past (λ e. e) refl)))
   stage (verdict {v = v} gens r a i o l j) = late Check gens (Some r) a r.wave refl (accepted i (is_within o l (judged tt r v refl j refl)))
 
   too_many : (n m : ℕ) → n ≤ m → m < n → ⊥
@@ -204,24 +196,24 @@ module _ (k : Request) (content : Option ReportContent) (w : WaveVector) (gens :
   large_or_not m n o l p h = let e : m ≡ n = order_unique (group_of gens) w m n o p in let f : order_limit < n = subst
       (λ x. order_limit < x) e l in omega arith
 
-  after_unique : {s t : Status} → After k content gens s → After k content gens t → Agree s t
-  after_unique (past n p) (past m q) = inr (p, q)
+  after_unique : {s t : Status} → After k content gens s → After k content gens t → s ≡ t
+  after_unique (past n p) (past m q) = p ∙ sym q
   after_unique (past n p) (judged e r v c j f) = absurd (n e)
   after_unique (judged e r v c j f) (past n p) = absurd (n e)
   after_unique (judged e r v c j f) (judged d q u h i g) =
       let same : r ≡ q = cc in
-      let there : IsJudged minus (group_of gens) r u = subst (λ x. IsJudged minus (group_of gens) x u) (sym same) i in
-      inl (f ∙ ap verdict_status (judged_once gens r v u j there) ∙ sym g)
+      let there : IsVerdict meaning minus (group_of gens) r u = subst (λ x. IsVerdict meaning minus (group_of gens) x u) (sym same) i in
+      f ∙ ap verdict_status (one_verdict meaning minus (group_of gens) r j there) ∙ sym g
 
-  in_group_unique : {s t : Status} → InGroup k content w gens s → InGroup k content w gens t → Agree s t
-  in_group_unique (order_is_large {n = m} o l) (order_is_large {n = n} p h) = inl (ap (λ x. TooLarge (Order x))
-      (order_unique (group_of gens) w m n o p))
+  in_group_unique : {s t : Status} → InGroup k content w gens s → InGroup k content w gens t → s ≡ t
+  in_group_unique (order_is_large {n = m} o l) (order_is_large {n = n} p h) = ap (λ x. TooLarge (Order x))
+      (order_unique (group_of gens) w m n o p)
   in_group_unique (order_is_large {n = m} o l) (is_within {n = n} p h x) = absurd (large_or_not m n o l p h)
   in_group_unique (is_within {n = n} p h x) (order_is_large {n = m} o l) = absurd (large_or_not m n o l p h)
   in_group_unique (is_within p l x) (is_within q m y) = after_unique x y
 
-  late_unique : {s t : Status} → Late k content w gens s → Late k content w gens t → Agree s t
-  late_unique (refused d m p e) (refused f n q g) = inl (e ∙ ap refused_status (refusal_unique gens d f m n p q) ∙ sym g)
+  late_unique : {s t : Status} → Late k content w gens s → Late k content w gens t → s ≡ t
+  late_unique (refused d m p e) (refused f n q g) = e ∙ ap refused_status (refusal_unique gens d f m n p q) ∙ sym g
   late_unique (refused d m p e) (accepted a i) = absurd (refused_or_accepted gens d m p a)
   late_unique (accepted a i) (refused d m p e) = absurd (refused_or_accepted gens d m p a)
   late_unique (accepted a i) (accepted b j) = in_group_unique i j
@@ -237,7 +229,7 @@ module _ (r q : Request) (one : AreOneCommand (command_of r) (command_of q)) (co
 
   after_along : {s : Status} → After r content gens s → After q content hens s
   after_along (past n p) = past (λ i. n (same_check q r backwards i)) p
-  after_along (judged e c v f j g) = judged (same_check r q one e) c v f (subst (λ gs. IsJudged minus (Generated gs) c v) one_group j) g
+  after_along (judged e c v f j g) = judged (same_check r q one e) c v f (subst (λ gs. IsVerdict meaning minus (Generated gs) c v) one_group j) g
 
   in_group_along : {s : Status} → InGroup r content w gens s → InGroup q content w hens s
   in_group_along (order_is_large {n = n} o h) = order_is_large (subst (λ gs. IsOrder (Generated gs) w n) one_group o) h
@@ -267,14 +259,9 @@ same_wave Check Check None d w v h f p q = absurd p
 same_wave Check Check (Some a) None w v h f p q = absurd q
 same_wave Check Check (Some a) (Some b) w v h f p q = let e : a ≡ b = cc in p ∙ ap (λ (r : ReportContent). r.wave) e ∙ sym q
 
--- the status of a verdict is none that is past limits, but for Done
-judged_done : (v : Verdict) → IsPastLimits (verdict_status v) → verdict_status v ≡ Done
-judged_done Yes w = refl
-judged_done (No clause rep i j) w = absurd w
-
 module _ (words : List (List ℕ)) (bytes : List ℕ) where
-  stage_unique : {s t : Status} → Stage words bytes s → Stage words bytes t → Agree s t
-  stage_unique (early x) (early y) = inl (early_unique words bytes x y)
+  stage_unique : {s t : Status} → Stage words bytes s → Stage words bytes t → s ≡ t
+  stage_unique (early x) (early y) = early_unique words bytes x y
   stage_unique (early x) (late r gens c a w at l) = absurd (early_or_late words bytes r gens c x a)
   stage_unique (late r gens c a w at l) (early x) = absurd (early_or_late words bytes r gens c x a)
   stage_unique (late r gens c a w at l) (late q hens d b v there m) =
@@ -284,26 +271,5 @@ module _ (words : List (List ℕ)) (bytes : List ℕ) where
       (late_along r q c d w v gens hens command input.1
       (same_wave r q c d w v command input.1 at there) (same_placed gens hens a.lines b.lines a.are b.are input.0) l) m
 
-  pub asked_status : {s t : Status} {x y : List ℕ} → Asks words bytes s x → Asks words bytes t y → Agree s t
-  asked_status p q = stage_unique (stage words bytes p) (stage words bytes q)
-
-  -- where tables have steps, no subgroup is without one
-  done : {s : Status} {x : List ℕ} → HaveSteps words bytes → Asks words bytes s x → IsPastLimits s → s ≡ Done
-  done steps (usage p) w = absurd w
-  done steps (too_long c l) w = absurd w
-  done steps (faulty_line c l e) w = absurd w
-  done steps (limited_line c l e) w = absurd w
-  done steps (no_report lines c l i h) w = absurd w
-  done steps (rotations k gens a r) w = absurd w
-  done steps (denominator k gens a r) w = absurd w
-  done steps (centrings k gens a r) w = absurd w
-  done steps (order_too_large k gens v a i at o l) w = absurd w
-  done steps (star k gens c a i o l is) w = refl
-  done steps (report k gens r a i o l is) w = refl
-  done steps (verdict {v = v} gens r a i o l j) w = judged_done v w
-  done steps (unchained {content = content} {h = h} {members = members} k gens T a i o l at u) w =
-      elim (steps k gens content a h T at members.items u.subgroup u.more_than_one)
-      [ inl two ↦ absurd (u.none_of_two two) | inr three ↦ absurd (u.none_of_three three) ]
-
-  pub asked_one : {s t : Status} {x y : List ℕ} → HaveSteps words bytes → Asks words bytes s x → Asks words bytes t y → s ≡ t
-  asked_one steps p q = elim (asked_status p q) [ inl e ↦ e | inr w ↦ done steps p w.0 ∙ sym (done steps q w.1) ]
+  pub asked_one : {s t : Status} {x y : List ℕ} → Asks words bytes s x → Asks words bytes t y → s ≡ t
+  asked_one p q = stage_unique (stage words bytes p) (stage words bytes q)

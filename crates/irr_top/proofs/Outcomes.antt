@@ -4,8 +4,8 @@
 use Rattle.std.proofs.Common.{◌≡◌, sym, subst, refl, ℕ, ◌⊎◌, inl, inr, Option, Some, List}
 use Rattle.irr_io.specs.Count.{Rose}
 use Rattle.irr_io.specs.Told.{IsAtEnd}
-use Rattle.irr_top.specs.Asked.{Asks, HaveSteps, IsAllOf, IsPastLimits}
-use Rattle.irr_top.specs.Asked.Asks.{usage, too_long, faulty_line, limited_line, no_report, rotations, denominator, centrings, order_too_large, star, report, unchained, verdict}
+use Rattle.irr_top.specs.Asked.{Asks, IsAllOf}
+use Rattle.irr_top.specs.Asked.Asks.{usage, too_long, faulty_line, limited_line, no_report, rotations, denominator, centrings, order_too_large, star, report, verdict}
 use Rattle.irr_top.specs.Answered.{HasText, Answers, CutOff, Streams}
 use Rattle.irr_top.specs.Ended.{Ended}
 use Rattle.irr_top.specs.Ended.Ended.{whole, cut_off, no_memory}
@@ -17,7 +17,7 @@ use Rattle.irr_check.specs.declared.verdict.Verdict.{Verdict}
 use Rattle.irr_check.specs.declared.verdict.Verdict.TheVariants.{No, Yes}
 use Rattle.irr_top.specs.declared.status.Status.{Status}
 use Rattle.irr_top.specs.declared.status.Status.TheVariants.{Done, Usage, ReadFault, WriteFault, Memory}
-use Rattle.irr_top.proofs.OneAnswer.{asked_one, asked_status}
+use Rattle.irr_top.proofs.OneAnswer.{asked_one}
 
 verdict_has_text : (v : Verdict) → HasText (verdict_status v)
 verdict_has_text Yes = tt
@@ -35,7 +35,6 @@ asked_text (centrings k gens a r) = tt
 asked_text (order_too_large r gens w a i at o l) = tt
 asked_text (star k gens c a i o l is) = tt
 asked_text (report k gens r a i o l is) = tt
-asked_text (unchained k gens T a i o l at u) = tt
 asked_text (verdict {v = v} gens r a i o l j) = verdict_has_text v
 
 -- the text of another status than Done is not Done
@@ -113,29 +112,28 @@ module _ (words : List (List ℕ)) (left leaves : Option (List ℕ)) (read_fault
   outcome_end (without_memory f) e = absurd (let k : Memory ≡ Done = e in cc)
 
   ended_asked : {t s r : Status} {text other : List ℕ} (bytes : List ℕ) → Asks words bytes s text → Asks words bytes r other
-      → (IsPastLimits r → HaveSteps words bytes) → Ended s text faults faulted held holds wrote writes t
+      → Ended s text faults faulted held holds wrote writes t
       → (t ≡ r) ⊎ ((t ≡ Memory) ⊎ ((t ≡ WriteFault) ⊎ (t ≡ ReadFault)))
-  ended_asked bytes p q steps (whole g w) = elim (asked_status words bytes p q)
-      [ inl e ↦ inl e | inr both ↦ inl (asked_one words bytes (steps both.1) p q) ]
-  ended_asked bytes p q steps (cut_off r g w) = inr (inr (inl refl))
-  ended_asked bytes p q steps (no_memory f) = inr (inl refl)
+  ended_asked bytes p q (whole g w) = inl (asked_one words bytes p q)
+  ended_asked bytes p q (cut_off r g w) = inr (inr (inl refl))
+  ended_asked bytes p q (no_memory f) = inr (inl refl)
 
   all_of : (bytes all : List ℕ) → left ≡ Some bytes → IsAllOf left all → all ≡ bytes
   all_of bytes all e h = subst (λ l. IsAllOf l all) e h
 
   pub outcome_asked : {t : Status} → Outcome words left leaves read_faults read_faulted faults faulted held holds wrote writes t
-      → (bytes text : List ℕ) (r : Status) → left ≡ Some bytes → Asks words bytes r text → (IsPastLimits r → HaveSteps words bytes)
+      → (bytes text : List ℕ) (r : Status) → left ≡ Some bytes → Asks words bytes r text
       → (t ≡ r) ⊎ ((t ≡ Memory) ⊎ ((t ≡ WriteFault) ⊎ (t ≡ ReadFault)))
-  outcome_asked (served all is s f) bytes text r e q steps =
+  outcome_asked (served all is s f) bytes text r e q =
       let same : bytes ≡ all = sym (all_of bytes all e is) in
-      ended_asked all s.asks (subst (λ b. Asks words b r text) same q) (subst (λ b. IsPastLimits r → HaveSteps words b) same steps) s.ended
-  outcome_asked (read_fault c p f) bytes text r e q steps = inr (inr (inr refl))
-  outcome_asked (without_memory f) bytes text r e q steps = inr (inl refl)
+      ended_asked all s.asks (subst (λ b. Asks words b r text) same q) s.ended
+  outcome_asked (read_fault c p f) bytes text r e q = inr (inr (inr refl))
+  outcome_asked (without_memory f) bytes text r e q = inr (inl refl)
 
   -- faulty words are refused, whatever the input
   ended_usage : {t s : Status} {text : List ℕ} (bytes : List ℕ) (n : ℕ) → IsFaultyWord words n → Asks words bytes s text
       → Ended s text faults faulted held holds wrote writes t → (t ≡ Usage n) ⊎ ((t ≡ Memory) ⊎ (t ≡ WriteFault))
-  ended_usage bytes n p asks (whole g w) = elim (asked_status words bytes asks (usage p)) [ inl e ↦ inl e | inr both ↦ absurd both.1 ]
+  ended_usage bytes n p asks (whole g w) = inl (asked_one words bytes asks (usage p))
   ended_usage bytes n p asks (cut_off r g w) = inr (inr refl)
   ended_usage bytes n p asks (no_memory f) = inr (inl refl)
 

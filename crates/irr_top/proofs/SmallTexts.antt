@@ -1,8 +1,8 @@
 -- The text of a report at a wave vector, from that on the table of the little group of its reduced wave vector.
---   small_text_of, no_report_of     a report, or why there is none
---   text_from, refusal_from         the same of an answer
---   order_there                     the order
-use Rattle.std.proofs.Common.{ap, subst, refl, ℕ, ◌≤◌, List, Vec, Global, Result, Ok, Err, IfOk, IfErr}
+--   little_steps       the table of a little group has steps
+--   small_text_of      a report
+--   order_there        the order
+use Rattle.std.proofs.Common.{ap, subst, refl, ℕ, ◌≤◌, List}
 use Rattle.irr_algebra.specs.Fin.{Fin}
 use Rattle.irr_space.specs.Operation.{Operation, WaveVector}
 use Rattle.irr_space.specs.Reciprocal.{IsOrder, IsReduced}
@@ -16,17 +16,22 @@ use Rattle.irr_seitz.specs.declared.op.Op.{Op}
 use Rattle.irr_cocycle.proofs.Reciprocals.{equivalent_sym}
 use Rattle.irr_close.specs.StandsFor.{stands_for}
 use Rattle.irr_close.specs.declared.group.Group.{Group}
+use Rattle.irr_chain.specs.NormalSubgroup.{HasSteps}
+use Rattle.irr_steps.proofs.Tables.{tables_have_steps}
 use Rattle.irr_little.specs.Table.{IsLittleTable, listed_operations}
 use Rattle.irr_little.proofs.Spaces.{form_of}
 use Rattle.irr_check.proofs.Along.{numbering_along, order_along, table_along}
 use Rattle.irr_top.specs.Asked.{order_limit}
 use Rattle.irr_top.specs.GroupOf.{IsGroupOf, group_of}
-use Rattle.irr_top.specs.LittleTable.{IsTableAt}
-use Rattle.irr_top.specs.SmallText.{IsListText, IsTableRefusal, IsSmallText, IsNoReport}
-use Rattle.irr_top.specs.declared.small_text.NoReport.{NoReport}
-use Rattle.irr_top.specs.declared.small_text.NoReport.TheVariants.{OrderTooLarge, Unchained, Memory}
+use Rattle.irr_top.specs.SmallText.{IsListText, IsSmallText}
 use Rattle.irr_top.proofs.Groups.{is_group, order_at}
 use Rattle.irr_top.proofs.Members.{some_item}
+
+pub little_steps : (group : Group) (w : WaveVector) (xs : List ℕ) {h : ℕ} (T : PhaseTable h) → IsLittleTable group w xs T → HasSteps T
+little_steps group w xs {h} T table =
+    let d : Op = some_item group.ops.items 0 (form_of group).nonempty in
+    tables_have_steps (sign_of group.phase) (stands_for group) (IsInLittleGroup (stands_for group) w) w (listed_operations group h xs d) T
+    (table.numbering d) (table.table d)
 
 module _ (group : Group) (gens : List Op) (is : IsGroupOf group gens) (k w : WaveVector) (reduced : IsReduced (group_of gens) k w) where
   pub order_there : (n : ℕ) → IsOrder (stands_for group) w n → IsOrder (group_of gens) k n
@@ -46,9 +51,6 @@ module _ (group : Group) (gens : List Op) (is : IsGroupOf group gens) (k w : Wav
     is_table : IsTableOf minus (group_of gens) w ops T
     is_table = subst (λ s. IsTableOf s (group_of gens) w ops T) (ap sign_of is.phase)
         (table_along (stands_for group) (group_of gens) is.stands (sign_of group.phase) w ops T (table.table some_operation))
-
-    table_at : IsTableAt minus (group_of gens) k T
-    table_at = record { wave = w; reduced = reduced; operation = ops; numbering = numbering; is_table = is_table }
 
     is_order : IsOrder (group_of gens) k T.order
     is_order = order_there T.order (table.table some_operation).is_order
@@ -75,25 +77,3 @@ module _ (group : Group) (gens : List Op) (is : IsGroupOf group gens) (k w : Wav
       modest = t.modest;
       is_text = t.is_text;
     }
-
-    pub no_report_of : (e : NoReport) → IsTableRefusal T e → IsNoReport gens k e
-    no_report_of (OrderTooLarge n) r = absurd r
-    no_report_of (Unchained members) r = record {
-      order = T.order;
-      is_order = is_order;
-      within = within;
-      places = h;
-      table = T;
-      is_table = table_at;
-      is_unchained = r;
-    }
-    no_report_of Memory r = r
-
-    pub text_from : (r : Result (Vec ℕ Global) NoReport) → ((d : Op) → IfOk r (λ text. IsListText w (listed_operations group h xs d) T text.items))
-        → IfOk r (λ text. IsSmallText gens k text.items)
-    text_from (Ok text) all = small_text_of text.items all
-    text_from (Err e) all = tt
-
-    pub refusal_from : (r : Result (Vec ℕ Global) NoReport) → IfErr r (IsTableRefusal T) → IfErr r (IsNoReport gens k)
-    refusal_from (Ok text) e = tt
-    refusal_from (Err e) refused = no_report_of e refused

@@ -8,7 +8,7 @@ use Rattle.std.specs.Io.{StartsWith}
 use Rattle.irr_io.specs.Count.{CountsAtMost}
 use Rattle.irr_io.specs.Told.{Gains, Gained}
 use Rattle.irr_top.specs.declared.status.Status.{Status}
-use Rattle.irr_top.specs.declared.status.Status.TheVariants.{Done, Rejected, Usage, BadInput, TooLarge, ReadFault, WriteFault, Memory, Unchained}
+use Rattle.irr_top.specs.declared.status.Status.TheVariants.{Done, Rejected, Usage, BadInput, TooLarge, ReadFault, WriteFault, Memory}
 use Rattle.irr_top.specs.Asked.{Asks, IsAllOf}
 
 abbrev pub HasText : Status → Type 0
@@ -20,7 +20,6 @@ HasText (TooLarge kind) = ⊤
 HasText ReadFault = ⊥
 HasText WriteFault = ⊥
 HasText Memory = ⊥
-HasText (Unchained members) = ⊤
 
 -- the bytes that a source had left, those that a sink held before and after, and its count of writes before and after, where they are told
 pub record Streams : Type 0 where

@@ -4,18 +4,14 @@
 --   Asks words bytes s text            the first of these that holds decides: faulty words; too many bytes; the first faulty line or the first
 --                                      one that passes a limit; no report where the words are `check`, at the line after the last; too many
 --                                      rotations or one with too large an entry, too large a common denominator, too many centrings; too large
---                                      an order; and else the text of the star; that of a report of the small representations, or a subgroup
---                                      of the little co-group that has no step; or the line of the verdict on the input's report
---   HaveSteps words bytes              each table of a little group whose small representations they ask for has steps
---   IsPastLimits s                     s comes where no limit is passed and no word or line is faulty, and it is no verdict of no
+--                                      an order; and else the text of the star, that of a report of the small representations, or the line
+--                                      of the verdict on the input's report, as it is meant: by invariant subspaces, and irreducible
+--                                      representations over every order
 --   IsAllOf left bytes                 the bytes are all that a source has left, where it tells
-use Rattle.std.specs.Global.{Global}
-use Rattle.std.specs.Prelude.{ℕ, ◌≡◌, ◌+◌, ◌<◌, ◌≤◌, ⊤, Option, None, Some, List, Vec, length, map}
+use Rattle.std.specs.Prelude.{ℕ, ◌≡◌, ◌+◌, ◌<◌, ◌≤◌, ⊤, Option, None, Some, List, length, map}
 use Rattle.irr_space.specs.Operation.{WaveVector}
 use Rattle.irr_space.specs.Reciprocal.{IsOrder}
 use Rattle.irr_space.specs.Reciprocal.Sign.{minus}
-use Rattle.irr_space.specs.PhaseTable.{PhaseTable}
-use Rattle.irr_chain.specs.NormalSubgroup.{IsUnchained}
 use Rattle.irr_cyc.specs.declared.orders.TheConstants.{ORDER_LIMIT}
 use Rattle.irr_text.specs.ReportText.{ReportContent, report_text, IsReportOf}
 use Rattle.irr_seitz.specs.declared.op.Op.{Op}
@@ -27,10 +23,10 @@ use Rattle.irr_input.specs.InputLines.{HasLines, IsFaultyLine, IsInput, IsLimitL
 use Rattle.irr_input.specs.declared.input.GenLine.{GenLine}
 use Rattle.irr_input.specs.declared.input.Reason.{Reason}
 use Rattle.irr_input.specs.declared.input.Reason.TheVariants.{Missing}
+use Rattle.irr_check.specs.Trials.Reading.{meaning}
+use Rattle.irr_check.specs.Verdict.{IsVerdict}
 use Rattle.irr_check.specs.declared.verdict.Verdict.{Verdict}
 use Rattle.irr_top.specs.GroupOf.{group_of}
-use Rattle.irr_top.specs.Judged.{IsJudged}
-use Rattle.irr_top.specs.LittleTable.{HasStepsAt, IsTableAt}
 use Rattle.irr_top.specs.RefusalText.{refusal_text}
 use Rattle.irr_top.specs.VerdictText.{verdict_status, verdict_text}
 use Rattle.irr_top.specs.Request.{HasSections, IsCommand, IsFaultyWord, IsRequested, IsWaveAsked}
@@ -38,7 +34,7 @@ use Rattle.irr_text.specs.StarText.{StarContent, star_text, IsStarOf}
 use Rattle.irr_top.specs.declared.request.Request.{Request}
 use Rattle.irr_top.specs.declared.request.Request.TheVariants.{Star, Small, Check}
 use Rattle.irr_top.specs.declared.status.Status.{Status}
-use Rattle.irr_top.specs.declared.status.Status.TheVariants.{Done, Rejected, Usage, BadInput, TooLarge, ReadFault, WriteFault, Memory, Unchained}
+use Rattle.irr_top.specs.declared.status.Status.TheVariants.{Done, Usage, BadInput, TooLarge}
 use Rattle.irr_top.specs.declared.status.Kind.TheVariants.{Bytes, Report, Rotations, Denominator, Centrings, Order}
 
 -- the limit on the bytes of an input, and on the order of numbers
@@ -81,29 +77,9 @@ pub data Asks (words : List (List ℕ)) (bytes : List ℕ) : Status → List ℕ
   report : {content : Option ReportContent} {n : ℕ} (k : Wave) (gens : List Op) (r : ReportContent) → IsAsked words bytes (Small k) gens content
       → IsAccepted gens → IsOrder (group_of gens) (wave_vector k) n → n ≤ order_limit
       → IsReportOf minus (group_of gens) (wave_vector k) r → Asks words bytes Done (report_text r)
-  unchained : {content : Option ReportContent} {n h : ℕ} {members : Vec ℕ Global} (k : Wave) (gens : List Op) (T : PhaseTable h)
-      → IsAsked words bytes (Small k) gens content → IsAccepted gens → IsOrder (group_of gens) (wave_vector k) n → n ≤ order_limit
-      → IsTableAt minus (group_of gens) (wave_vector k) T → IsUnchained T members.items
-      → Asks words bytes (Unchained members) (refusal_text (Unchained members))
   verdict : {n : ℕ} {v : Verdict} (gens : List Op) (r : ReportContent) → IsAsked words bytes Check gens (Some r)
       → IsAccepted gens → IsOrder (group_of gens) r.wave n → n ≤ order_limit
-      → IsJudged minus (group_of gens) r v → Asks words bytes (verdict_status v) (verdict_text v)
-
--- the premise of steps for what is asked for
-abbrev pub HaveSteps : List (List ℕ) → List ℕ → Type 0
-HaveSteps words bytes = (k : Wave) (gens : List Op) (content : Option ReportContent) → IsAsked words bytes (Small k) gens content
-    → HasStepsAt minus (group_of gens) (wave_vector k)
-
-abbrev pub IsPastLimits : Status → Type 0
-IsPastLimits Done = ⊤
-IsPastLimits (Rejected clause rep i j) = ⊥
-IsPastLimits (Usage n) = ⊥
-IsPastLimits (BadInput line reason) = ⊥
-IsPastLimits (TooLarge kind) = ⊥
-IsPastLimits ReadFault = ⊥
-IsPastLimits WriteFault = ⊥
-IsPastLimits Memory = ⊥
-IsPastLimits (Unchained members) = ⊤
+      → IsVerdict meaning minus (group_of gens) r v → Asks words bytes (verdict_status v) (verdict_text v)
 
 abbrev pub IsAllOf : Option (List ℕ) → List ℕ → Type 0
 IsAllOf None bytes = ⊤

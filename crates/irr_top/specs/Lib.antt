@@ -1,10 +1,8 @@
 pub mod StatusCode
 pub mod Request
 pub mod GroupOf
-pub mod LittleTable
 pub mod RefusalText
 pub mod VerdictText
-pub mod Judged
 pub mod Asked
 pub mod Members
 pub mod SmallText

@@ -205,7 +205,6 @@ fn answer_small<O: Sink>(alloc: Global, wave: &Wave, group: &Group, sink: &mut O
         Err(NoReport::OrderTooLarge(order)) => {
             refuse(alloc, Status::TooLarge(Kind::Order(order)), sink)
         }
-        Err(NoReport::Unchained(members)) => refuse(alloc, Status::Unchained(members), sink),
         Err(NoReport::Memory) => Status::Memory,
     }
 }

@@ -15,7 +15,7 @@ mod verdict_text;
 
 pub use irr_check::{Clause, Verdict};
 pub use irr_input::Reason;
-pub use laws::{one_star_of_a_wave_vector, one_status_is_asked_for};
+pub use laws::{one_star_of_a_wave_vector, one_status_is_asked_for, yes_is_for_complete_reports};
 pub use refusal::text_refusal;
 pub use star_text::text_star;
 pub use status::{Kind, Status};

@@ -8,7 +8,7 @@ ghost use Rattle.irr_cyc.specs.declared.orders.TheConstants.{ORDER_LIMIT};
 ghost use Rattle.irr_rep.specs.Twisted.{phase_table, place_count, operation_places};
 ghost use Rattle.irr_little.specs.Table.{IsLittleTable, listed_operations};
 ghost use Rattle.irr_top.specs.GroupOf.{IsGroupOf};
-ghost use Rattle.irr_top.specs.SmallText.{IsListText, IsTableRefusal, IsSmallText, IsNoReport};
+ghost use Rattle.irr_top.specs.SmallText.{IsListText, IsSmallText, IsNoReport};
 ghost use Rattle.irr_top.specs.declared.small_text.NoReport.TheVariants.{Memory as want_of_memory};
 
 use crate::report::list_text;
@@ -30,9 +30,6 @@ type Number = Dense;
 pub(crate) enum NoReport {
     /// The order, which is above the limit.
     OrderTooLarge(u64),
-    /// The places of a subgroup of the little co-group of more than one element that has no normal subgroup of
-    /// index 2 or 3.
-    Unchained(Vec<u32>),
     /// No memory was found.
     Memory,
 }
@@ -54,26 +51,28 @@ pub(crate) fn small_text(alloc: Global, group: &Group, k: &Wave) -> Result<Vec<u
 {
     let wave = reduced_wave(group, k);
     match little(alloc, group, &wave) {
-        Ok(t) => table_text(alloc, group, wave, &t),
+        Ok(t) => {
+            let text = table_text(alloc, group, wave, &t)?;
+            Ok(text)
+        }
         Err(LittleError::OrderTooLarge(order)) => Err(NoReport::OrderTooLarge(order)),
         Err(LittleError::Memory) => Err(NoReport::Memory),
     }
 }
 
-// The text of the report with this table of phases of the little group.
-fn table_text(alloc: Global, group: &Group, wave: Wave, t: &Twisted) -> Result<Vec<u8>, NoReport>
+// The text of the report with this table of phases of the little group: each has steps, so there is always one.
+fn table_text(alloc: Global, group: &Group, wave: Wave, t: &Twisted) -> Result<Vec<u8>, Memory>
     requires table { IsLittleTable group.now (wave_vector wave) (operation_places t.now) (phase_table t.now) }
     requires within { (phase_table t.now).order ≤ ORDER_LIMIT }
-    ensures text { (d : Op) → IfOk result (λ text.
+    ensures { (d : Op) → IfOk result (λ text.
         IsListText (wave_vector wave) (listed_operations group.now (place_count t.now) (operation_places t.now) d) (phase_table t.now) text.items) }
-    ensures none { IfErr result (IsTableRefusal (phase_table t.now)) }
 {
     match small_reps::<Number>(alloc, t) {
         Ok(families) => {
             let text = list_text(alloc, group, wave, t, families)?;
             Ok(text)
         }
-        Err(ClimbError::Unchained(members)) => Err(NoReport::Unchained(members)),
-        Err(ClimbError::Memory) => Err(NoReport::Memory),
+        Err(ClimbError::Unchained(_)) => unreachable!(),
+        Err(ClimbError::Memory) => Err(Memory),
     }
 }

@@ -4,7 +4,7 @@ ghost use Rattle.irr_io.specs.Count.{Rose, CountsAtMost};
 ghost use Rattle.irr_io.specs.Told.{IsAtEnd};
 ghost use Rattle.irr_input.specs.Command.{texts};
 ghost use Rattle.irr_top.specs.Request.{IsCommand, IsFaultyWord};
-ghost use Rattle.irr_top.specs.Asked.{Asks, HaveSteps, IsPastLimits, input_limit};
+ghost use Rattle.irr_top.specs.Asked.{Asks, input_limit};
 ghost use Rattle.irr_top.specs.Answered.{HasText, Answers, CutOff, streams};
 
 use crate::answer::answer;
@@ -39,13 +39,11 @@ pub fn run<I: Source, O: Sink>(
         (streams (I.left source.old) (O.held sink.old) (O.held sink.new) (O.writes sink.old) (O.writes sink.new)) }
     ensures memory { result ≡ Status.Memory → O.held sink.new ≡ O.held sink.old }
 
-    // What is asked for is answered, unless a stream fails or memory is wanting: each refusal, the star and the verdict without more ado,
-    // the report where the tables of the little group have steps.
+    // What is asked for is answered, unless a stream fails or memory is wanting.
     ensures usage { (n : ℕ) → IsFaultyWord (texts words.now) n →
         (result ≡ Status.Usage n) ⊎ ((result ≡ Status.Memory) ⊎ (result ≡ Status.WriteFault)) }
     ensures asked { (bytes text : List ℕ) (s : Status) → I.left source.old ≡ Some bytes →
         Asks (texts words.now) bytes s text →
-        (IsPastLimits s → HaveSteps (texts words.now) bytes) →
         (result ≡ s) ⊎ ((result ≡ Status.Memory) ⊎ ((result ≡ Status.WriteFault) ⊎ (result ≡ Status.ReadFault))) }
 
     // At the end of a run that is done, the input was read to its end, and it is read in few reads.

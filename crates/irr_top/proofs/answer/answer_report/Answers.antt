@@ -12,17 +12,17 @@ use Rattle.irr_top.specs.Ended.Replies.{serves, without_memory}
 use Rattle.irr_top.specs.declared.request.Request.TheVariants.{Check}
 use Rattle.irr_top.specs.declared.status.Status.TheVariants.{TooLarge}
 use Rattle.irr_top.specs.declared.status.Kind.TheVariants.{Order}
-use Rattle.irr_top.proofs.Judgements.{judged_along, order_within}
+use Rattle.irr_top.proofs.Judgements.{meant_along, order_within}
 use Rattle.irr_top.proofs.answer.answer_report.Goals as goal
 
 pub returns-in-Ok : goal.returns-in-Ok
 returns-in-Ok g c = λ words bytes gens a i is.
-    let o = order_within c.args.group.now gens is (content_of c.args.report.now) c.in-Ok.ensures.tried c.in-Ok.ensures.accepted in
+    let o = order_within c.args.group.now gens is (content_of c.args.report.now) c.in-Ok.ensures.verdict c.in-Ok.ensures.accepted in
     serves (record {
       status = verdict_status c.in-Ok.verdict;
       text = verdict_text c.in-Ok.verdict;
       asks = verdict gens (content_of c.args.report.now) a i o.1 o.2
-          (judged_along c.args.group.now gens is (content_of c.args.report.now) c.in-Ok.verdict c.in-Ok.ensures.tried c.in-Ok.ensures.verdict c.in-Ok.ensures.yes);
+          (meant_along c.args.group.now gens is (content_of c.args.report.now) c.in-Ok.verdict c.in-Ok.ensures.verdict);
       ended = c.tell.ensures;
     })
 

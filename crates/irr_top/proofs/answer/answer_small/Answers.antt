@@ -3,11 +3,11 @@ use Rattle.std.proofs.Common.{◌∙◌, subst, refl, ℕ, List}
 use Rattle.irr_text.specs.ReportText.{report_text}
 use Rattle.irr_kvec.specs.WaveMeaning.{wave_vector}
 use Rattle.irr_top.specs.RefusalText.{refusal_text}
-use Rattle.irr_top.specs.Asked.Asks.{order_too_large, report, unchained}
+use Rattle.irr_top.specs.Asked.Asks.{order_too_large, report}
 use Rattle.irr_top.specs.Ended.{Ended}
 use Rattle.irr_top.specs.Ended.Replies.{serves, without_memory}
 use Rattle.irr_top.specs.declared.request.Request.TheVariants.{Small}
-use Rattle.irr_top.specs.declared.status.Status.TheVariants.{Done, TooLarge, Unchained}
+use Rattle.irr_top.specs.declared.status.Status.TheVariants.{Done, TooLarge}
 use Rattle.irr_top.specs.declared.status.Kind.TheVariants.{Order}
 use Rattle.irr_top.proofs.answer.answer_small.Goals as goal
 
@@ -32,16 +32,6 @@ returns-in-Err-OrderTooLarge g c = λ words bytes gens content a i is.
       text = refusal_text (TooLarge (Order c.in-Err-OrderTooLarge.order));
       asks = order_too_large (Small c.args.wave.now) gens (wave_vector c.args.wave.now) a i refl f.0 f.1;
       ended = c.refuse.ensures;
-    })
-
-pub returns-in-Err-Unchained : goal.returns-in-Err-Unchained
-returns-in-Err-Unchained g c = λ words bytes gens content a i is.
-    let f = rw c.in-Err-Unchained.field-0-is at c.in-Err-Unchained.ensures.none gens is in
-    serves (record {
-      status = Unchained c.in-Err-Unchained.members;
-      text = refusal_text (Unchained c.in-Err-Unchained.members);
-      asks = unchained c.args.wave.now gens f.table a i f.is_order f.within f.is_table f.is_unchained;
-      ended = c.refuse-in-Err-Unchained.ensures;
     })
 
 pub returns-in-Err-Memory : goal.returns-in-Err-Memory

@@ -5,18 +5,13 @@ use Rattle.irr_kvec.specs.WaveMeaning.{wave_vector}
 use Rattle.irr_rep.specs.Twisted.{phase_table, operation_places}
 use Rattle.irr_top.specs.Asked.{order_limit}
 use Rattle.irr_top.specs.GroupOf.{group_of}
-use Rattle.irr_top.proofs.SmallTexts.{text_from, refusal_from, order_there}
+use Rattle.irr_top.proofs.SmallTexts.{small_text_of, order_there}
 use Rattle.irr_top.proofs.small_text.small_text.Goals as goal
 
-pub returns-in-Ok-clause-text : goal.returns-in-Ok-clause-text
-returns-in-Ok-clause-text c = λ gens is. text_from c.args.group.now gens is (wave_vector c.args.k.now) (wave_vector c.reduced_wave-wave.result)
+pub returns-in_ok-text-in-Ok-clause-text : goal.returns-in_ok-text-in-Ok-clause-text
+returns-in_ok-text-in-Ok-clause-text c = λ gens is. small_text_of c.args.group.now gens is (wave_vector c.args.k.now) (wave_vector c.reduced_wave-wave.result)
     (c.reduced_wave-wave.ensures.reduced gens is) (operation_places c.in-Ok.t) (phase_table c.in-Ok.t) c.in-Ok.ensures.table c.in-Ok.ensures.accepted
-    c.table_text.result c.table_text.ensures.text
-
-pub returns-in-Ok-clause-none : goal.returns-in-Ok-clause-none
-returns-in-Ok-clause-none c = λ gens is. refusal_from c.args.group.now gens is (wave_vector c.args.k.now) (wave_vector c.reduced_wave-wave.result)
-    (c.reduced_wave-wave.ensures.reduced gens is) (operation_places c.in-Ok.t) (phase_table c.in-Ok.t) c.in-Ok.ensures.table c.in-Ok.ensures.accepted
-    c.table_text.result c.table_text.ensures.none
+    c.in_ok-text-in-Ok.text.items c.in_ok-text-in-Ok.ensures
 
 pub returns-in-Err-OrderTooLarge-clause-none : goal.returns-in-Err-OrderTooLarge-clause-none
 returns-in-Err-OrderTooLarge-clause-none c = λ gens is.
