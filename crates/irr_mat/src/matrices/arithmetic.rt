@@ -1,7 +1,8 @@
 //! Sums, products and traces.
-ghost use Rattle.std.specs.Prelude.{ℕ, ◌≡◌, ◌+◌, ◌*◌, ◌<◌, length, IfOk};
+ghost use Rattle.std.specs.Prelude.{ℕ, ◌≡◌, ◌+◌, ◌*◌, ◌^◌, ◌<◌, ◌≤◌, length, IfOk};
 ghost use Rattle.irr_algebra.specs.Matrix.{◌·◌, ◌⊕◌, scale, trace};
 ghost use Rattle.irr_number.specs.Number.{numbers};
+ghost use Rattle.irr_canonical.specs.Coefficient.{denominator, size};
 ghost use Rattle.irr_mat.specs.Entries.{first_order, IsEntry, matrix_of};
 ghost use Rattle.irr_mat.specs.Size.{MultiplesFit, ProductFits, SumsFit, TraceFits};
 
@@ -9,6 +10,26 @@ use crate::matrices::Mat;
 use irr_cyc::{Order, Scalar};
 use irr_memory::Memory;
 use std::alloc::Global;
+
+/// The product of two numbers of one order, at once where one of them is 0. The error is want of memory.
+pub(crate) fn product<S: Scalar>(alloc: Global, left: &S, right: &S) -> Result<S, Memory>
+    requires orders { S.order_of right.now ≡ S.order_of left.now }
+    requires denominators { let n = S.order_of left.now in denominator n (S.value n left.now) * denominator n (S.value n right.now) ≤ 2 ^ 60 }
+    requires sizes { let n = S.order_of left.now in size n (S.value n left.now) * size n (S.value n right.now) ≤ 2 ^ 100 }
+    ensures order { IfOk result (λ x. S.order_of x ≡ S.order_of left.now) }
+    ensures value { IfOk result (λ x. let n = S.order_of left.now in S.value n x ≡ (numbers n).mul (S.value n left.now) (S.value n right.now)) }
+{
+    if left.is_zero() {
+        let none = left.copy(alloc)?;
+        return Ok(none);
+    }
+    if right.is_zero() {
+        let none = right.copy(alloc)?;
+        return Ok(none);
+    }
+    let product = left.mul(alloc, right)?;
+    Ok(product)
+}
 
 impl<S: Scalar> Mat<S> {
     // The entry of the product in row i and column j.
@@ -105,7 +126,7 @@ impl<S: Scalar> Mat<S> {
         let mut entries = Vec::new(alloc);
         for i in 0..self.rows {
             for j in 0..self.cols {
-                let product = by.mul(alloc, self.at(i, j))?;
+                let product = product(alloc, by, self.at(i, j))?;
                 entries.push(product)?;
             }
         }
@@ -125,7 +146,11 @@ impl<S: Scalar> Mat<S> {
     {
         let mut sum = self.at(0, 0).copy(alloc)?;
         for i in 1..self.rows {
-            sum = sum.add(alloc, self.at(i, i))?;
+            let entry = self.at(i, i);
+            if entry.is_zero() {
+                continue;
+            }
+            sum = sum.add(alloc, entry)?;
         }
         Ok(sum)
     }

@@ -8,6 +8,7 @@ ghost use Rattle.irr_mat.specs.Entries.{first_order, IsEntry, matrix_of};
 ghost use Rattle.irr_mat.specs.Size.{ProductsFit};
 
 use crate::matrices::Mat;
+use crate::matrices::arithmetic::product;
 use irr_cyc::{Order, Scalar};
 use irr_memory::Memory;
 use std::alloc::Global;
@@ -32,7 +33,7 @@ impl<S: Scalar> Mat<S> {
             for j in 0..cols {
                 let left = self.at(i / other.rows, j / other.cols);
                 let right = other.at(i % other.rows, j % other.cols);
-                let product = left.mul(alloc, right)?;
+                let product = product(alloc, left, right)?;
                 entries.push(product)?;
             }
         }

@@ -10,8 +10,8 @@ use Rattle.irr_mat.proofs.Entries.{filled-push, filled-next, filled-done, filled
 use Rattle.irr_mat.proofs.Sizes.{within-at, sum_denominators, product_sizes}
 use Rattle.irr_mat.proofs.matrices.Mat.kron.Goals as goal
 
-pub mul-requires-clause-denominators : goal.mul-requires-clause-denominators
-mul-requires-clause-denominators g c =
+pub product-requires-clause-denominators : goal.product-requires-clause-denominators
+product-requires-clause-denominators g c =
     let value = g.S.Scalar.value in
     let a = c.args.self.now in
     let b = c.args.other.now in
@@ -28,8 +28,8 @@ mul-requires-clause-denominators g c =
     (within-at value n b.rows b.cols fit.t fit.e b.entries.items (i % b.rows) (j % b.cols) y fit.right (remainder-lt b.rows i b.some_rows) (remainder-lt b.cols j b.some_cols) c.at-right.ensures.place)
     (2 ^ 60) fit.denominators
 
-pub mul-requires-clause-sizes : goal.mul-requires-clause-sizes
-mul-requires-clause-sizes g c =
+pub product-requires-clause-sizes : goal.product-requires-clause-sizes
+product-requires-clause-sizes g c =
     let value = g.S.Scalar.value in
     let a = c.args.self.now in
     let b = c.args.other.now in

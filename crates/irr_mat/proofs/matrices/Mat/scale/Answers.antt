@@ -7,8 +7,8 @@ use Rattle.irr_mat.proofs.Entries.{filled-push, filled-done, filled-orders, fill
 use Rattle.irr_mat.proofs.Sizes.{within-at, sum_denominators, product_sizes}
 use Rattle.irr_mat.proofs.matrices.Mat.scale.Goals as goal
 
-pub mul-requires-clause-denominators : goal.mul-requires-clause-denominators
-mul-requires-clause-denominators g c =
+pub product-requires-clause-denominators : goal.product-requires-clause-denominators
+product-requires-clause-denominators g c =
     let value = g.S.Scalar.value in
     let a = c.args.self.now in
     let n = first_order g.S.Scalar.order_of a.entries.items in
@@ -19,8 +19,8 @@ mul-requires-clause-denominators g c =
     (within-at value n a.rows a.cols fit.t fit.e a.entries.items c.loop-i.i c.loop-j.j y fit.right c.loop-i-test.true c.loop-j-test.true c.at.ensures.place)
     (2 ^ 60) fit.denominators
 
-pub mul-requires-clause-sizes : goal.mul-requires-clause-sizes
-mul-requires-clause-sizes g c =
+pub product-requires-clause-sizes : goal.product-requires-clause-sizes
+product-requires-clause-sizes g c =
     let value = g.S.Scalar.value in
     let a = c.args.self.now in
     let n = first_order g.S.Scalar.order_of a.entries.items in
