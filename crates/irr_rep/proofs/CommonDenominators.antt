@@ -3,6 +3,7 @@
 --   root_sum_of_power                     q z^j is a sum of q powers
 --   family_order                          what holds of the order of each number holds of that of a family
 --   divisor_within                        a divisor of a denominator is within its limit
+--   divisor_positive, divisor_limited     the same of the denominator of a limited family
 --   entry_within                          an entry of a matrix is within its sizes
 --   checkable_multiples                   a family times a divisor of its denominator can be checked
 --   multiplies-to, multiplies-from        its products are right where those of the family are
@@ -72,6 +73,12 @@ module _ {S : Type 0} {G : Ghosts S} where
 
   pub denominator_positive : (n h d e : ℕ) (mats : List (Mat S G)) → IsLimited n h d e mats → Fin h → 0 < e
   denominator_positive n h d e mats l i = (l.within i).positive
+
+  pub divisor_positive : (n h d e q : ℕ) (mats : List (Mat S G)) → IsLimited n h d e mats → Fin h → q ∣ e → 0 < q
+  divisor_positive n h d e q mats l i v = divisor_pos q e (denominator_positive n h d e mats l i) v
+
+  pub divisor_limited : (n h d e q : ℕ) (mats : List (Mat S G)) → IsLimited n h d e mats → Fin h → q ∣ e → q ≤ 4096
+  divisor_limited n h d e q mats l i v = divisor_within q e (denominator_positive n h d e mats l i) l.limited v
 
   pub entry_within : (n r s d : ℕ) (a : Matrix (numbers n) r r) (m : Mat S G) → IsMatrix n r a m → IsWithin n s d a → (i j : ℕ) (x : S)
       → i < m.rows → j < m.cols → G.order_of x ≡ first_order G.order_of m.entries.items

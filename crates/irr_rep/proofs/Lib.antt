@@ -12,6 +12,8 @@ pub mod MatrixForms
 pub mod SingleEntries
 pub mod TraceRoots
 pub mod WrongPairs
+pub mod Generating
+pub mod Markings
 pub mod CommonDenominators
 pub mod MultiplesSoFar
 pub mod Clearing

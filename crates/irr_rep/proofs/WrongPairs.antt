@@ -1,9 +1,13 @@
 -- Where a family first fails, from what is known of its products.
 --   is-true, not-true                what a test of a product says
 --   wrong_at, right_row, row_right   the first failure in a row
+--   failed, passed                   whether there is one
+--   before_next                      a row before the next
 --   failure-map                      where two conditions fail together
 --   no_unit, wrong_pair, right_all   the first defect
-use Rattle.std.proofs.Common.{◌≡◌, sym, ◌∙◌, subst, ℕ, ◌<◌, ◌⊎◌, inl, inr, List, Option, Some, None, Bool, true, false, IsTrue, rules}
+use Rattle.std.proofs.Common.{◌≡◌, sym, ◌∙◌, subst, ℕ, ◌+◌, ◌<◌, ◌≤◌, ◌⊎◌, inl, inr, List, Option, Some, None, Bool, true, false, IsTrue, arith, rules}
+use Rattle.std.specs.Option.{is_some}
+use Rattle.std.proofs.lemmas.Bool.{cases_lt}
 use Rattle.std.specs.Int.{◌∣◌}
 use Rattle.irr_algebra.specs.Fin.{Fin, to_nat}
 use Rattle.irr_algebra.specs.Matrix.{unit}
@@ -34,6 +38,23 @@ module _ {h : ℕ} (P : Fin h → Type 0) where
   pub row_right : IsFirstFailure P None → (j : Fin h) → P j
   unfolding IsFirstFailure
   row_right r = r
+
+  pub failed : (r : Option ℕ) → true ≡ is_some r → IsFirstFailure P r → ((j : Fin h) → P j) → ⊥
+  unfolding IsFirstFailure
+  failed None e w all = absurd (cc)
+  failed (Some k) e w all = w.2 (all w.0)
+
+  pub passed : (r : Option ℕ) → false ≡ is_some r → IsFirstFailure P r → (j : Fin h) → P j
+  unfolding IsFirstFailure
+  passed None e w = w
+  passed (Some k) e w = absurd (cc)
+
+pub before_next : (k i : ℕ) → k < i + 1 → (k < i) ⊎ (k ≡ i)
+before_next k i l = go (cases_lt k i)
+  where
+    go : (k < i) ⊎ (i ≤ k) → (k < i) ⊎ (k ≡ i)
+    go (inl a) = inl a
+    go (inr b) = inr (omega (arith, l, b))
 
 pub failure-map : {h : ℕ} (P Q : Fin h → Type 0) (r : Option ℕ) → ((j : Fin h) → P j → Q j) → ((j : Fin h) → Q j → P j) → IsFirstFailure P r
     → IsFirstFailure Q r

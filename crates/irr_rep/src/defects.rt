@@ -1,5 +1,5 @@
 // Where a family first fails to be a small representation.
-ghost use Rattle.std.specs.Prelude.{ℕ, ◌≡◌, ◌<◌, ◌≤◌, ◌*◌, ◌/◌, ◌↔◌, IfOk, IsTrue};
+ghost use Rattle.std.specs.Prelude.{ℕ, ◌≡◌, ◌<◌, ◌≤◌, ◌*◌, ◌/◌, ◌↔◌, All, Contains, IfOk, IsTrue};
 ghost use Rattle.std.specs.Int.{◌∣◌};
 ghost use Rattle.irr_algebra.specs.Fin.{Fin, to_nat};
 ghost use Rattle.irr_algebra.specs.Matrix.{scale, unit};
@@ -14,6 +14,7 @@ ghost use Rattle.irr_rep.specs.Defects.{IsCheckable, IsFirstDefect, IsFirstFailu
 
 use crate::cleared::{common_denominator, multiple_of_power, multiples};
 use crate::family::{Defect, Family};
+use crate::generators::generators;
 use crate::table::Twisted;
 use irr_cyc::{Order, Scalar};
 use irr_mat::Mat;
@@ -23,6 +24,10 @@ use std::alloc::Global;
 /// Where a family first fails to be a small representation of a table: None exactly where it is one, `Unit`
 /// exactly where the matrix at the unit is not the unit matrix, and else the first pair of places, row by row,
 /// whose product is not the phase times the matrix at their product.
+///
+/// Where the products in the rows of generators of the table are right, all are, by the cocycle law. So a small
+/// representation costs as many products of matrices as there are places, for each of at most 5 generators. Only
+/// another family is searched, row by row, over the pairs up to the first wrong one.
 ///
 /// The family has a square matrix of at most 48 rows for each place, whose entries have an order that the
 /// table's order divides. Over one denominator up to 4096, each entry is a sum of at most 2^30 powers of z with
@@ -42,6 +47,10 @@ pub fn first_defect<S: Scalar>(
     let number = common_denominator(alloc, f)?;
     let mats = multiples(alloc, f, number)?;
     let cleared = Family { dim: f.dim, mats };
+    let places = generators(alloc, t)?;
+    if rows_multiply(alloc, t, &cleared, number, places.as_slice())? {
+        return Ok(None);
+    }
     for i in 0..t.len() {
         if let Some(j) = first_wrong(alloc, t, &cleared, number, i)? {
             return Ok(Some(Defect::Product { i, j }));
@@ -60,6 +69,30 @@ fn has_unit<S: Scalar>(alloc: Global, t: &Twisted, f: &Family<S>) -> Result<bool
     let order = Order::new(alloc, first.at(0, 0).order())?;
     let unit = Mat::unit(alloc, &order, f.dim)?;
     Ok(first.equal(&unit))
+}
+
+// Whether the products in the rows of some places are right, in a family times a number.
+fn rows_multiply<S: Scalar>(
+    alloc: Global,
+    t: &Twisted,
+    f: &Family<S>,
+    number: u32,
+    places: &[u32],
+) -> Result<bool, Memory>
+    requires checkable { IsCheckable (phase_table t.now) f.now.dim f.now.mats.items }
+    requires positive { 0 < number }
+    requires limited { number ≤ 4096 }
+    requires below { All (λ i. i < place_count t.now) places.now }
+    ensures { IfOk result (λ right. (p : IsCheckable (phase_table t.now) f.now.dim f.now.mats.items)
+        → IsTrue right ↔ ((a b : Fin (place_count t.now)) → Contains places.now (to_nat a)
+        → MultipliesBy (phase_table t.now) p.n p.divides f.now.dim f.now.mats.items number a b)) }
+{
+    for i in places {
+        if first_wrong(alloc, t, f, number, *i)?.is_some() {
+            return Ok(false);
+        }
+    }
+    Ok(true)
 }
 
 // The first place j at which the product of the matrices at i and j is wrong, in a family times a number.

@@ -6,6 +6,7 @@ mod cleared;
 mod cycle;
 mod defects;
 mod family;
+mod generators;
 mod lists;
 mod subgroup;
 mod table;
