@@ -1,6 +1,6 @@
 -- The terms of the scalar product of two characters, and their sum.
 --   item-value, item-small   a number of a row, by its place
---   phase_times, times_phase conditions of the two products of a term
+--   few_powers, few_products conditions of the two products of a term
 --   term-value               the two products make the term
 --   term-small               the size of a term
 use Rattle.std.proofs.Common.{◌≡◌, sym, ◌∙◌, ap, ap₂, subst, ℕ, ◌*◌, ◌-◌, ◌/◌, ◌%◌, ◌<◌, ◌≤◌, ◌^◌, List, length, get_or, map, arith}
@@ -14,7 +14,7 @@ use Rattle.irr_canonical.specs.RootSum.{IsRootSum}
 use Rattle.irr_canonical.proofs.RootSums.{IsRootSum-mul, IsRootSum-root}
 use Rattle.irr_space.specs.PhaseTable.{PhaseTable}
 use Rattle.irr_char.specs.Rows.{row_of}
-use Rattle.irr_char.specs.Characters.{IsSmallRow, average_term}
+use Rattle.irr_char.specs.Characters.{IsRowWithin, average_term}
 
 pub few_powers : (n s t : ℕ) → n ≤ 12000 → s ≤ 48 → t ≤ 2304 → s * n * (t * n) ≤ 2 ^ 100
 few_powers n s t l p q =
@@ -22,8 +22,11 @@ few_powers n s t l p q =
     let b : 48 * 12000 * (2304 * 12000) ≤ 2 ^ 100 = omega arith in
     Nat.le_trans a b
 
-module _ {S : Type 0} (order : S → ℕ) (value : (n : ℕ) → S → Number n) (n h : ℕ) (row : List S) (small : IsSmallRow order value n h row) (k : ℕ)
-    (l : k < h) (x : S) (is : x ≡ get_or row k x) where
+pub few_products : (n s t : ℕ) → n ≤ 12000 → s ≤ 2304 → t ≤ 48 → s * n * (t * n) ≤ 2 ^ 100
+few_products n s t l p q = subst (λ k. k ≤ 2 ^ 100) (Nat.mul_comm (t * n) (s * n)) (few_powers n t s l q p)
+
+module _ {S : Type 0} (order : S → ℕ) (value : (n : ℕ) → S → Number n) (n h : ℕ) (row : List S) {s : ℕ} (small : IsRowWithin order value n h s row)
+    (k : ℕ) (l : k < h) (x : S) (is : x ≡ get_or row k x) where
   within : k < length row
   within = subst (λ m. k < m) (sym small.count) l
 
@@ -34,10 +37,10 @@ module _ {S : Type 0} (order : S → ℕ) (value : (n : ℕ) → S → Number n)
   item-value p e = ap (value n) is ∙ sym (get_or-map (value n) row k x (numbers n).zero within)
       ∙ ap (λ j. get_or (map (value n) row) j (numbers n).zero) (sym e)
 
-  pub item-small : IsRootSum n 48 1 (value n x)
+  pub item-small : IsRootSum n s 1 (value n x)
   item-small =
       let p = from_nat h k l in
-      subst (IsRootSum n 48 1) (sym (item-value p (to_nat-from_nat h k l))) (small.small p)
+      subst (IsRootSum n s 1) (sym (item-value p (to_nat-from_nat h k l))) (small.small p)
 
 module _ {h : ℕ} (T : PhaseTable h) (n : ℕ) (f g : Fin h → Number n) where
   -- the two products make the term
@@ -46,8 +49,8 @@ module _ {h : ℕ} (T : PhaseTable h) (n : ℕ) (f g : Fin h → Number n) where
   unfolding average_term
   term-value p z u x y q r s v = v ∙ ap₂ (numbers n).mul s (ap₂ (numbers n).mul q r)
 
-  pub term-small : ((i : Fin h) → IsRootSum n 48 1 (f i)) → ((i : Fin h) → IsRootSum n 48 1 (g i)) → (p : Fin h)
-      → IsRootSum n (48 * (1 * 48)) (1 * (1 * 1)) (average_term T n f g p)
+  pub term-small : {s t : ℕ} → ((i : Fin h) → IsRootSum n s 1 (f i)) → ((i : Fin h) → IsRootSum n t 1 (g i)) → (p : Fin h)
+      → IsRootSum n (t * (1 * s)) (1 * (1 * 1)) (average_term T n f g p)
   unfolding average_term
   term-small a b p = IsRootSum-mul n (b p) (IsRootSum-mul n (IsRootSum-root n ((T.order - 1) * T.exponent p (T.opposite p) % T.order * (n / T.order)))
       (a (T.opposite p)))

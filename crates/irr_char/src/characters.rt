@@ -11,7 +11,7 @@ ghost use Rattle.irr_mat.specs.Size.{TraceFits};
 ghost use Rattle.irr_rep.specs.Family.{HasShape, matrix_at};
 ghost use Rattle.irr_rep.specs.Twisted.{place_count, phase_table};
 ghost use Rattle.irr_char.specs.Rows.{row_of};
-ghost use Rattle.irr_char.specs.Characters.{AreCharacters, IsRowOf, IsSmallRow, average_term};
+ghost use Rattle.irr_char.specs.Characters.{AreCharacters, IsRowOf, IsRowWithin, IsSmallRow, average_term};
 
 use irr_cyc::{Order, Scalar};
 use irr_memory::Memory;
@@ -60,7 +60,7 @@ fn term<S: Scalar>(
     requires admitted { S.admits order.now.n }
     requires divides { (phase_table t.now).order ∣ order.now.n }
     requires left { IsSmallRow S.order_of S.value order.now.n (place_count t.now) a.now }
-    requires right { IsSmallRow S.order_of S.value order.now.n (place_count t.now) b.now }
+    requires right { IsRowWithin S.order_of S.value order.now.n (place_count t.now) 2304 b.now }
     requires place { i < place_count t.now }
     ensures order { IfOk result (λ x. S.order_of x ≡ order.now.n) }
     ensures value { let n = order.now.n in IfOk result (λ x. (p : Fin (place_count t.now)) → to_nat p ≡ i
@@ -88,8 +88,9 @@ pub fn whole_number<S: Scalar>(alloc: Global, x: &S) -> Result<u32, Memory>
 /// characters: the scalar product of the characters, which is the average over the places of the trace of the
 /// second's matrix times the trace of the inverse of the first's (Bradley and Cracknell, section 3.7).
 ///
-/// The representations have at most 48 rows, and numbers of one order that the table's order divides. The error
-/// is want of memory.
+/// The first has at most 48 rows. The second has at most 2,304, as the part of a direct product at a wave vector,
+/// or none, where its character is a row of zeros. The numbers have one order, which the table's order divides. The
+/// error is want of memory.
 pub fn average<S: Scalar>(alloc: Global, t: &Twisted, a: &[S], b: &[S]) -> Result<u32, Memory>
     requires { AreCharacters S.order_of S.value (phase_table t.now) a.now b.now }
     ensures { (p : AreCharacters S.order_of S.value (phase_table t.now) a.now b.now)
@@ -101,5 +102,7 @@ pub fn average<S: Scalar>(alloc: Global, t: &Twisted, a: &[S], b: &[S]) -> Resul
         let next = term(alloc, t, &order, a, b, i)?;
         sum = sum.add(alloc, &next)?;
     }
-    Ok(whole_number(alloc, &sum)? / t.len())
+    let mean = sum.scale(alloc, 1, t.len() as u64)?;
+    let dimension = whole_number(alloc, &mean)?;
+    Ok(dimension)
 }

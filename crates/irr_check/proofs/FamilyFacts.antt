@@ -127,7 +127,7 @@ module _ {S : Type 0} {G : Ghosts S} where
       left = family_of a p;
       right = family_of b q;
       left_few = is_a.family.few;
-      right_few = is_b.family.few;
+      right_few = (let few = is_b.family.few in omega arith);
       left_row = traced_row a is_a s xs e;
       right_row = traced_row b is_b u ys f;
     }

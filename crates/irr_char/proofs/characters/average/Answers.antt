@@ -1,10 +1,9 @@
 -- The scalar product, and the dimension that it counts.
-use Rattle.std.proofs.Common.{rules, ◌≡◌, sym, ◌∙◌, ap, subst, ◌*◌, ◌/◌, ◌<◌, ◌^◌, map, arith}
+use Rattle.std.proofs.Common.{rules, ◌≡◌, sym, ◌∙◌, subst, ◌*◌, ◌<◌, ◌≤◌, ◌^◌, map, arith}
 use native.Mathlib.Nat as Nat
 use Rattle.irr_algebra.specs.Action.{HasDimension}
-use Rattle.irr_algebra.specs.Listed.{sum_below}
-use Rattle.irr_algebra.specs.Ring.{whole}
 use Rattle.irr_number.specs.Number.{numbers}
+use Rattle.irr_canonical.specs.Coefficient.{denominator, size}
 use Rattle.irr_canonical.specs.RootSum.{IsRootSum}
 use Rattle.irr_mat.proofs.PartialSums.{partial-add, partial-none, partial-within}
 use Rattle.irr_mat.proofs.Sizes.{sum_denominators, sum_sizes}
@@ -12,7 +11,7 @@ use Rattle.irr_rep.specs.Twisted.{place_count, phase_table}
 use Rattle.irr_char.specs.Rows.{row_of}
 use Rattle.irr_char.specs.Characters.{average_term}
 use Rattle.irr_char.proofs.Traces.{extended}
-use Rattle.irr_char.proofs.ScalarProducts.{dimension_at, divides_at, few_terms, left_at, next-value, own_order, right_at, terms_at, whole_small}
+use Rattle.irr_char.proofs.ScalarProducts.{dimension_at, divides_at, few_terms, left_at, mean-value, mean_denominator, mean_size, next-value, own_order, right_at, sum-whole, sum-within, terms_at, whole_small}
 use Rattle.irr_char.proofs.characters.average.Goals as goal
 
 pub loop-i-init : goal.loop-i-init
@@ -64,9 +63,9 @@ add-requires-clause-denominators g c =
     let terms = terms_at order value T c.args.a.now c.args.b.now c.requires n e c.in_ok-order.order.positive in
     sum_denominators value (order c.loop-i.sum) n (g.met.S.Scalar.admitted_positive (order c.loop-i.sum)
     (g.met.S.Scalar.order_admitted c.loop-i.sum)) c.loop-i.invariant.has_order
-    (k * 2304) 1 2304 1 c.loop-i.sum c.in_ok-next.next
-    (partial-within order value n (extended n t) k 2304 1 c.loop-i.sum c.loop-i.invariant (omega arith) (λ i q. terms i (Nat.lt_trans q l)))
-    (subst (IsRootSum n 2304 1) (sym (next-value n t k l (value n c.in_ok-next.next) c.in_ok-next.ensures.value)) (terms k l))
+    (k * 110592) 1 110592 1 c.loop-i.sum c.in_ok-next.next
+    (partial-within order value n (extended n t) k 110592 1 c.loop-i.sum c.loop-i.invariant (omega arith) (λ i q. terms i (Nat.lt_trans q l)))
+    (subst (IsRootSum n 110592 1) (sym (next-value n t k l (value n c.in_ok-next.next) c.in_ok-next.ensures.value)) (terms k l))
     (2 ^ 60) (omega arith)
 
 pub add-requires-clause-sizes : goal.add-requires-clause-sizes
@@ -83,9 +82,9 @@ add-requires-clause-sizes g c =
     let terms = terms_at order value T c.args.a.now c.args.b.now c.requires n e c.in_ok-order.order.positive in
     sum_sizes value (order c.loop-i.sum) n (g.met.S.Scalar.admitted_positive (order c.loop-i.sum)
     (g.met.S.Scalar.order_admitted c.loop-i.sum)) c.loop-i.invariant.has_order
-    (k * 2304) 1 2304 1 c.loop-i.sum c.in_ok-next.next
-    (partial-within order value n (extended n t) k 2304 1 c.loop-i.sum c.loop-i.invariant (omega arith) (λ i q. terms i (Nat.lt_trans q l)))
-    (subst (IsRootSum n 2304 1) (sym (next-value n t k l (value n c.in_ok-next.next) c.in_ok-next.ensures.value)) (terms k l))
+    (k * 110592) 1 110592 1 c.loop-i.sum c.in_ok-next.next
+    (partial-within order value n (extended n t) k 110592 1 c.loop-i.sum c.loop-i.invariant (omega arith) (λ i q. terms i (Nat.lt_trans q l)))
+    (subst (IsRootSum n 110592 1) (sym (next-value n t k l (value n c.in_ok-next.next) c.in_ok-next.ensures.value)) (terms k l))
     (2 ^ 110) (few_terms n (place_count c.args.t.now) k c.in_ok-order.order.limited c.args.t.now.places_within l)
 
 pub loop-i-preserved : goal.loop-i-preserved
@@ -101,8 +100,8 @@ loop-i-preserved g c =
     (value u c.in_ok-next.next)) c.loop-i.invariant.has_order c.in_ok-sum-2.ensures.value)
     (next-value n t k l (value n c.in_ok-next.next) c.in_ok-next.ensures.value)
 
-pub whole_number-requires : goal.whole_number-requires
-whole_number-requires g c =
+pub scale-requires-clause-denominators : goal.scale-requires-clause-denominators
+scale-requires-clause-denominators g c =
     let order = g.S.Scalar.order_of in
     let value = g.S.Scalar.value in
     let n = c.in_ok-order.order.n in
@@ -110,20 +109,50 @@ whole_number-requires g c =
     let T = phase_table c.args.t.now in
     let e = own_order order value T c.args.a.now c.args.b.now c.requires c.index-a-0.result n c.order.result c.index-a-0.is c.order.ensures
     c.in_ok-order.ensures in
-    let f = extended n (average_term T n (row_of n (map (value n) c.args.a.now)) (row_of n (map (value n) c.args.b.now))) in
-    let d = dimension_at order value T c.args.a.now c.args.b.now c.requires n e c.in_ok-order.order.positive in
-    let terms = terms_at order value T c.args.a.now c.args.b.now c.requires n e c.in_ok-order.order.positive in
     let done : c.loop-i.i ≡ h = search rules in
-    let all : value n c.loop-i.sum ≡ sum_below (numbers n) h f =
-    subst (λ u. value n c.loop-i.sum ≡ sum_below (numbers n) u f) done c.loop-i.invariant.is_sum in
-    let within = subst (λ u. IsRootSum n (u * 2304) 1 (value n c.loop-i.sum)) done
-    (partial-within order value n f c.loop-i.i 2304 1 c.loop-i.sum c.loop-i.invariant (omega arith) (λ i q. terms i (subst (λ u. i < u) done q))) in
+    let within = sum-within order value T c.args.a.now c.args.b.now c.requires n e c.in_ok-order.order.positive c.loop-i.i c.loop-i.sum done
+    c.loop-i.invariant in
+    subst (λ k. denominator (order c.loop-i.sum) (value (order c.loop-i.sum) c.loop-i.sum) * k ≤ 2 ^ 60) (sym c.len.ensures.count)
+    (subst (λ u. denominator u (value u c.loop-i.sum) * h ≤ 2 ^ 60) (sym c.loop-i.invariant.has_order)
+    (mean_denominator n h (value n c.loop-i.sum) c.in_ok-order.order.positive c.in_ok-order.order.limited c.args.t.now.places_within within))
+
+pub scale-requires-clause-sizes : goal.scale-requires-clause-sizes
+scale-requires-clause-sizes g c =
+    let order = g.S.Scalar.order_of in
+    let value = g.S.Scalar.value in
+    let n = c.in_ok-order.order.n in
+    let h = place_count c.args.t.now in
+    let T = phase_table c.args.t.now in
+    let e = own_order order value T c.args.a.now c.args.b.now c.requires c.index-a-0.result n c.order.result c.index-a-0.is c.order.ensures
+    c.in_ok-order.ensures in
+    let done : c.loop-i.i ≡ h = search rules in
+    let within = sum-within order value T c.args.a.now c.args.b.now c.requires n e c.in_ok-order.order.positive c.loop-i.i c.loop-i.sum done
+    c.loop-i.invariant in
+    subst (λ u. size u (value u c.loop-i.sum) * 1 ≤ 2 ^ 100) (sym c.loop-i.invariant.has_order)
+    (mean_size n h (value n c.loop-i.sum) c.in_ok-order.order.positive c.in_ok-order.order.limited c.args.t.now.places_within within)
+
+pub whole_number-requires : goal.whole_number-requires
+whole_number-requires g c =
+    let order = g.S.Scalar.order_of in
+    let value = g.S.Scalar.value in
+    let n = c.in_ok-order.order.n in
+    let h = place_count c.args.t.now in
+    let T = phase_table c.args.t.now in
+    let p = c.requires in
+    let e = own_order order value T c.args.a.now c.args.b.now p c.index-a-0.result n c.order.result c.index-a-0.is c.order.ensures
+    c.in_ok-order.ensures in
+    let done : c.loop-i.i ≡ h = search rules in
+    let m = (dimension_at order value T c.args.a.now c.args.b.now p n e c.in_ok-order.order.positive).0 in
+    let within = sum-within order value T c.args.a.now c.args.b.now p n e c.in_ok-order.order.positive c.loop-i.i c.loop-i.sum done
+    c.loop-i.invariant in
+    let is = sum-whole order value T c.args.a.now c.args.b.now p n e c.in_ok-order.order.positive c.loop-i.i c.loop-i.sum done c.loop-i.invariant in
     record {
       whole = (
-        h * d.0,
-        whole_small n h (h * d.0) (value n c.loop-i.sum) c.in_ok-order.order.positive c.in_ok-order.order.limited c.args.t.now.places_within within
-            (all ∙ d.2),
-        subst (λ u. value u c.loop-i.sum ≡ whole (numbers u) (h * d.0)) (sym c.loop-i.invariant.has_order) (all ∙ d.2),
+        m,
+        whole_small n h (value n c.loop-i.sum) c.in_ok-order.order.positive c.in_ok-order.order.limited c.args.t.now.places_within within m
+            c.args.t.now.not_empty is,
+        mean-value order value n h c.len.result m c.loop-i.sum c.in_ok-mean.mean c.in_ok-order.order.positive c.args.t.now.not_empty c.len.ensures.count
+            c.loop-i.invariant.has_order c.in_ok-mean.ensures.order c.in_ok-mean.ensures.value is,
       );
     }
 
@@ -136,12 +165,9 @@ returns g c p =
     let T = phase_table c.args.t.now in
     let e = own_order order value T c.args.a.now c.args.b.now p c.index-a-0.result n c.order.result c.index-a-0.is c.order.ensures
     c.in_ok-order.ensures in
-    let f = extended n (average_term T n (row_of n (map (value n) c.args.a.now)) (row_of n (map (value n) c.args.b.now))) in
-    let d = dimension_at order value T c.args.a.now c.args.b.now p n e c.in_ok-order.order.positive in
     let done : c.loop-i.i ≡ h = search rules in
-    let all : value n c.loop-i.sum ≡ sum_below (numbers n) h f =
-    subst (λ u. value n c.loop-i.sum ≡ sum_below (numbers n) u f) done c.loop-i.invariant.is_sum in
-    let product : c.in_ok-whole_number.field-0 ≡ h * d.0 = c.in_ok-whole_number.ensures (h * d.0)
-    (subst (λ u. value u c.loop-i.sum ≡ whole (numbers u) (h * d.0)) (sym c.loop-i.invariant.has_order) (all ∙ d.2)) in
-    subst (HasDimension p.left.at p.right.at)
-    (sym (ap (λ u. c.in_ok-whole_number.field-0 / u) c.len.ensures.count ∙ Nat.div-eq_of_eq-mul_right c.args.t.now.not_empty product)) d.1
+    let d = dimension_at order value T c.args.a.now c.args.b.now p n e c.in_ok-order.order.positive in
+    let is = sum-whole order value T c.args.a.now c.args.b.now p n e c.in_ok-order.order.positive c.loop-i.i c.loop-i.sum done c.loop-i.invariant in
+    subst (HasDimension p.left.at p.right.at) (sym (c.in_ok-dimension.ensures d.0
+    (mean-value order value n h c.len.result d.0 c.loop-i.sum c.in_ok-mean.mean c.in_ok-order.order.positive c.args.t.now.not_empty c.len.ensures.count
+    c.loop-i.invariant.has_order c.in_ok-mean.ensures.order c.in_ok-mean.ensures.value is))) d.1

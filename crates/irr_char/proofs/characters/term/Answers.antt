@@ -8,7 +8,7 @@ use Rattle.irr_canonical.proofs.RootSums.{IsRootSum-mul, IsRootSum-root}
 use Rattle.irr_mat.proofs.Sizes.{product_sizes, sum_denominators}
 use Rattle.irr_rep.specs.Twisted.{place_count, phase_table}
 use Rattle.irr_char.specs.Rows.{row_of}
-use Rattle.irr_char.proofs.AverageTerms.{few_powers, item-order, item-small, item-value, term-value}
+use Rattle.irr_char.proofs.AverageTerms.{few_powers, few_products, item-order, item-small, item-value, term-value}
 use Rattle.irr_char.proofs.characters.term.Goals as goal
 
 pub inverse_exponent-requires-clause-divides : goal.inverse_exponent-requires-clause-divides
@@ -52,7 +52,7 @@ mul-requires-2-clause-denominators g c =
     let o = item-order g.S.Scalar.order_of value n
     (place_count c.args.t.now) c.args.b.now c.requires.right c.args.i c.requires.place y c.index-b-i.is in
     sum_denominators value (g.S.Scalar.order_of y) n (g.met.S.Scalar.admitted_positive (g.S.Scalar.order_of y) (g.met.S.Scalar.order_admitted y)) o
-    48 1 (1 * 48) (1 * 1) y c.in_ok-inverse.inverse
+    2304 1 (1 * 48) (1 * 1) y c.in_ok-inverse.inverse
     (item-small g.S.Scalar.order_of value n (place_count c.args.t.now) c.args.b.now c.requires.right c.args.i c.requires.place y c.index-b-i.is)
     (subst (IsRootSum n (1 * 48) (1 * 1)) (sym
     (subst (λ u. value u c.in_ok-inverse.inverse ≡ (numbers u).mul (value u x)
@@ -71,13 +71,13 @@ mul-requires-2-clause-sizes g c =
     let o = item-order g.S.Scalar.order_of value n
     (place_count c.args.t.now) c.args.b.now c.requires.right c.args.i c.requires.place y c.index-b-i.is in
     product_sizes value (g.S.Scalar.order_of y) n (g.met.S.Scalar.admitted_positive (g.S.Scalar.order_of y) (g.met.S.Scalar.order_admitted y)) o
-    48 1 (1 * 48) (1 * 1) y c.in_ok-inverse.inverse
+    2304 1 (1 * 48) (1 * 1) y c.in_ok-inverse.inverse
     (item-small g.S.Scalar.order_of value n (place_count c.args.t.now) c.args.b.now c.requires.right c.args.i c.requires.place y c.index-b-i.is)
     (subst (IsRootSum n (1 * 48) (1 * 1)) (sym
     (subst (λ u. value u c.in_ok-inverse.inverse ≡ (numbers u).mul (value u x)
     (value u c.index-a-j.result)) c.in_ok-phase.ensures.order c.in_ok-inverse.ensures.value))
     (IsRootSum-mul n (subst (IsRootSum n 1 1) (sym c.in_ok-phase.ensures.value) (IsRootSum-root n c.inverse_exponent.result)) a))
-    (2 ^ 100) (few_powers n 48 (1 * 48) c.args.order.now.limited (omega arith) (omega arith))
+    (2 ^ 100) (few_products n 2304 (1 * 48) c.args.order.now.limited (omega arith) (omega arith))
 
 pub returns-clause-value : goal.returns-clause-value
 returns-clause-value g c =
