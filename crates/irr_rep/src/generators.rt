@@ -1,5 +1,5 @@
 // Places of a table whose products are all its places.
-ghost use Rattle.std.specs.Prelude.{ℕ, ◌≡◌, ◌<◌, All, IfOk, length, slice_set, true};
+ghost use Rattle.std.specs.Prelude.{ℕ, ◌≡◌, ◌<◌, All, IfOk, length, not, slice_index_or, slice_set, true, false};
 ghost use Rattle.irr_rep.specs.Generators.{Generate, Grows};
 ghost use Rattle.irr_rep.specs.Twisted.{phase_table, place_count};
 
@@ -76,9 +76,13 @@ fn mark_row(t: &Twisted, generators: &[u32], marks: &mut [bool], i: u32) -> bool
 // Marks the place k; whether it is new.
 fn mark(marks: &mut [bool], k: u32) -> bool
     requires { k < length marks.old }
-    ensures { marks.new ≡ slice_set marks.old k true }
+    ensures marked { marks.new ≡ slice_set marks.old k true }
+    ensures new { result ≡ not (slice_index_or marks.old k false) }
 {
     let is_new = !marks[k as usize];
     marks[k as usize] = true;
     is_new
 }
+
+#[cfg(test)]
+mod tests;

@@ -20,7 +20,7 @@ pub(crate) fn screw_axis(alloc: Global) -> Result<Twisted, Memory>
 
 // The little group of P2_12_12_1 at 1/2,1/2,1/2, with z = i. The operations after the identity are
 // -x+1/2,-y,z+1/2; -x,y+1/2,-z+1/2 and x+1/2,-y+1/2,-z. They multiply as the units of the quaternions.
-fn three_screw_axes(alloc: Global) -> Result<Twisted, Memory>
+pub(crate) fn three_screw_axes(alloc: Global) -> Result<Twisted, Memory>
     ensures count { IfOk result (λ t. place_count t ≡ 4) }
     ensures subgroup { IfOk result (λ t. IsSubgroup (phase_table t) (0 ∷ 2 ∷ [])) }
 {

@@ -20,6 +20,6 @@ loop-g-preserved c =
     let below : slice_index places k < h = All-get_or (λ g. g < h) places k 0 within c.requires.below in
     let inside : Contains places (slice_index places k) = (k, within, get_or_default places k (slice_index places k) 0 within) in
     grows-join T places c.args.marks.now c.loop-g.marks c.mark.new.marks c.loop-g.invariant
-    (subst (Grows T places c.loop-g.marks) (sym c.mark.ensures)
+    (subst (Grows T places c.loop-g.marks) (sym c.mark.ensures.marked)
     (grows-product T places c.loop-g.marks c.args.i (slice_index places k) c.table.result c.requires.place below
     (c.loop-g.invariant.count ∙ c.requires.count) (c.loop-g.invariant.kept c.args.i c.if-not-marks-i.false) inside c.table.ensures.product))
