@@ -1,7 +1,7 @@
 -- What holds of a group of operations holds of each with the same operations.
 --   reciprocal_along, order_along, little_along      reciprocal vectors, orders, little groups
 --   numbering_along, table_along                     numberings of a little group, and tables of phases
---   verdict_along, complete_along, steps_along       verdicts, reports of complete lists, steps of each table
+--   verdict_along, complete_along                    verdicts, reports of complete lists
 use Rattle.std.proofs.Common.{◌↔◌, ℕ}
 use Rattle.irr_algebra.specs.Fin.{Fin}
 use Rattle.irr_space.specs.Operation.{Operation, WaveVector, translation}
@@ -13,7 +13,7 @@ use Rattle.irr_close.proofs.Along.{canonical_along, exponent_along}
 use Rattle.irr_text.specs.ReportText.{ReportContent}
 use Rattle.irr_check.specs.declared.verdict.Verdict.{Verdict}
 use Rattle.irr_check.specs.Trials.{Reading}
-use Rattle.irr_check.specs.Verdict.{HaveSteps, IsCompleteReport, IsVerdict}
+use Rattle.irr_check.specs.Verdict.{IsCompleteReport, IsVerdict}
 use Rattle.irr_check.specs.Verdict.IsVerdict.{of_families, other_operations, other_order}
 
 module _ (G H : Operation → Type 0) (same : (g : Operation) → G g ↔ H g) where
@@ -79,8 +79,3 @@ module _ (G H : Operation → Type 0) (same : (g : Operation) → G g ↔ H g) w
     complete = c.complete;
     content = c.content;
   }
-
-module _ (G H : Operation → Type 0) (same : (g : Operation) → G g ↔ H g) where
-  pub steps_along : (s : Sign) (k : WaveVector) → HaveSteps s G k → HaveSteps s H k
-  steps_along s k steps h ops T numbering table = steps h ops T (numbering_along H G (back G H same) k ops numbering)
-      (table_along H G (back G H same) s k ops T table)

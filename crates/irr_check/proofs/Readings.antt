@@ -2,7 +2,7 @@
 --   meant          what is passed by dimensions is passed as it is meant, where the trials before it are
 --   measured       and the converse, where each subgroup has a step
 --   verdict_meant  so the verdicts are the same
---   complete_list  the list of families that pass all trials
+--   passed_complete, meant_complete    the list of families that pass all trials, by dimensions or as they are meant, is complete
 use Rattle.std.proofs.Common.{◌≡◌, sym, ◌∙◌, subst, inl, inr, ℕ, zero, suc, ◌<◌, arith}
 use Rattle.std.specs.Int.{◌∣◌}
 use native.Mathlib.Nat as Nat
@@ -235,3 +235,35 @@ module _ {h : ℕ} (T : PhaseTable h) where
       pub passed_traces : (m : Fin F.count) (i : Fin h) → F.character m i ≡ trace (F.matrix m i)
       unfolding Passes
       passed_traces m i = every (at_trace m i)
+
+    -- so are families that pass all trials as they are meant
+    module _ (every : (t : Trial F.count h) → Passes T F meaning t) where
+      pub small_as_meant : (m : Fin F.count) → IsSmallAt m
+      unfolding Passes
+      small_as_meant m = (every (at_unit m), λ i j. every (at_product m i j))
+
+      abbrev pub meant_small : AreSmall T F
+      meant_small = record { unit_at = λ m. (small_as_meant m).0; product_at = λ m. (small_as_meant m).1 }
+
+      different_as_meant : (a b : Fin F.count) → ¬ (a ≡ b) → ¬ (Equivalent (F.matrix a) (F.matrix b))
+      unfolding Passes PassesInequivalent
+      different_as_meant a b d e = elim (cases_lt (to_nat a) (to_nat b)) [
+        | inl l ↦ every (inequivalent a b) l e
+        | inr g ↦ elim (cases_lt (to_nat b) (to_nat a)) [
+          | inl l ↦ every (inequivalent b a) l (equivalent_sym (F.matrix a) (F.matrix b) e)
+          | inr k ↦ d (to_nat_inj a b (omega (arith, g, k)))
+        ]
+      ]
+
+      pub meant_complete : IsCompleteList T (small_list T F meant_small)
+      unfolding Passes PassesIrreducible PassesAll map_family
+      meant_complete = record {
+        positive = positive;
+        irreducible = λ M v p m. every (irreducible m) M v p;
+        inequivalent = different_as_meant;
+        all = λ M v p d A l i. every all M v p d A l i;
+      }
+
+      pub meant_traces : (m : Fin F.count) (i : Fin h) → F.character m i ≡ trace (F.matrix m i)
+      unfolding Passes
+      meant_traces m i = every (at_trace m i)

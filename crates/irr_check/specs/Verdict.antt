@@ -5,19 +5,16 @@
 --   IsVerdict w s G r v         the verdict on the report r of small representations of the group G, for the sign s of the phase:
 --                               the order of its wave vector is tried first, then its operations, then its families
 --   IsCompleteReport s G r      the report of a complete list of small representations at its wave vector
---   HaveSteps s G k             each table of the little group of k has steps: each subgroup of more than one element has a normal
---                               subgroup of index 2 or 3
 use Rattle.std.specs.Prelude.{ℕ, ◌≡◌, ◌<◌, ◌+◌}
 use Rattle.irr_algebra.specs.Fin.{Fin, to_nat}
 use Rattle.irr_theory.specs.Representations.{Representations}
-use Rattle.irr_space.specs.Operation.{Operation, WaveVector}
+use Rattle.irr_space.specs.Operation.{Operation}
 use Rattle.irr_space.specs.Reciprocal.{IsOrder, Sign}
 use Rattle.irr_space.specs.CanonicalOperation.{IsNumbering}
 use Rattle.irr_space.specs.Star.{IsInLittleGroup}
 use Rattle.irr_space.specs.PhaseTable.{PhaseTable, IsTableOf, phases_at}
 use Rattle.irr_space.specs.CompleteList.{IsCompleteList}
 use Rattle.irr_text.specs.ReportText.{ReportContent, list_report}
-use Rattle.irr_chain.specs.NormalSubgroup.{HasSteps}
 use Rattle.irr_check.specs.declared.verdict.Verdict.{Verdict}
 use Rattle.irr_check.specs.declared.verdict.Verdict.TheVariants.{No, Yes}
 use Rattle.irr_check.specs.declared.verdict.Clause.TheVariants.{Order, Ops, Unit as UnitMatrix, Multiply, Char, Reducible, Equivalent, Missing}
@@ -57,6 +54,3 @@ pub record IsCompleteReport (s : Sign) (G : Operation → Type 0) (r : ReportCon
   pub representations : Representations (phases_at table)
   pub complete : IsCompleteList table representations
   pub content : r ≡ list_report r.wave operation table representations
-
-abbrev pub HaveSteps : (s : Sign) (G : Operation → Type 0) → WaveVector → Type 0
-HaveSteps s G k = (h : ℕ) (ops : Fin h → Operation) (T : PhaseTable h) → IsNumbering G (IsInLittleGroup G k) ops → IsTableOf s G k ops T → HasSteps T

@@ -8,7 +8,7 @@ ghost use Rattle.irr_seitz.specs.declared.op.Op.{Op};
 ghost use Rattle.irr_close.specs.Limits.{operations};
 ghost use Rattle.irr_check.specs.Trials.{Reading};
 ghost use Rattle.irr_check.specs.Trials.Reading.{dimensions, meaning};
-ghost use Rattle.irr_check.specs.Verdict.{HaveSteps, IsCompleteReport, IsVerdict};
+ghost use Rattle.irr_check.specs.Verdict.{IsCompleteReport, IsVerdict};
 ghost use Rattle.irr_check.specs.declared.verdict.Verdict.{Verdict};
 ghost use Rattle.irr_check.specs.declared.verdict.Verdict.TheVariants.{Yes};
 
@@ -18,16 +18,17 @@ pub fn one_verdict_on_a_report()
         → IsVerdict w s (Generated (operations gens)) r u → IsVerdict w s (Generated (operations gens)) r v → u ≡ v }
 {}
 
-/// A report on which the verdict by dimensions is Yes is that of a complete list.
+/// A report on which the verdict is Yes is that of a complete list: by dimensions, or as it is meant, where each representation
+/// has rows.
 pub fn a_yes_is_complete()
-    ensures { (gens : List Op) (s : Sign) (r : ReportContent) → IsVerdict dimensions s (Generated (operations gens)) r Yes
+    ensures by_dimensions { (gens : List Op) (s : Sign) (r : ReportContent) → IsVerdict dimensions s (Generated (operations gens)) r Yes
         → IsCompleteReport s (Generated (operations gens)) r }
+    ensures as_it_is_meant { (gens : List Op) (s : Sign) (r : ReportContent) → ((m : Fin r.count) → 0 < r.size m)
+        → IsVerdict meaning s (Generated (operations gens)) r Yes → IsCompleteReport s (Generated (operations gens)) r }
 {}
 
-/// The verdict by dimensions is the verdict as it is meant, where each representation has rows and each table of
-/// the little group has steps.
+/// The verdict by dimensions is the verdict as it is meant, where each representation has rows.
 pub fn verdicts_as_they_are_meant()
     ensures { (gens : List Op) (s : Sign) (r : ReportContent) (v : Verdict) → ((m : Fin r.count) → 0 < r.size m)
-        → HaveSteps s (Generated (operations gens)) r.wave → IsVerdict dimensions s (Generated (operations gens)) r v
-        → IsVerdict meaning s (Generated (operations gens)) r v }
+        → IsVerdict dimensions s (Generated (operations gens)) r v → IsVerdict meaning s (Generated (operations gens)) r v }
 {}

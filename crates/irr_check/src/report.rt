@@ -11,7 +11,7 @@ ghost use Rattle.irr_report.specs.Content.{content_of};
 ghost use Rattle.irr_check.specs.Limits.{IsCheckRefusal};
 ghost use Rattle.irr_report.specs.Limits.{IsWithinLimits};
 ghost use Rattle.irr_check.specs.Trials.Reading.{dimensions, meaning};
-ghost use Rattle.irr_check.specs.Verdict.{HaveSteps, IsCompleteReport, IsVerdict};
+ghost use Rattle.irr_check.specs.Verdict.{IsCompleteReport, IsVerdict};
 ghost use Rattle.irr_check.specs.declared.verdict.Verdict.TheVariants.{Yes};
 
 use crate::families::families_verdict;
@@ -38,8 +38,7 @@ pub fn check<S: Scalar>(
 ) -> Result<Verdict, CheckError>
     requires { IsWithinLimits report.now }
     ensures tried { IfOk result (λ v. IsVerdict dimensions (sign_of group.now.phase) (stands_for group.now) (content_of report.now) v) }
-    ensures verdict { HaveSteps (sign_of group.now.phase) (stands_for group.now) (wave_vector report.now.wave)
-        → IfOk result (λ v. IsVerdict meaning (sign_of group.now.phase) (stands_for group.now) (content_of report.now) v) }
+    ensures verdict { IfOk result (λ v. IsVerdict meaning (sign_of group.now.phase) (stands_for group.now) (content_of report.now) v) }
     ensures yes { IfOk result (λ v. v ≡ Yes → IsCompleteReport (sign_of group.now.phase) (stands_for group.now) (content_of report.now)) }
     ensures accepted { IfOk result (λ v. (n : ℕ) → IsOrder (stands_for group.now) (wave_vector report.now.wave) n → n ≤ ORDER_LIMIT) }
     ensures refused { IfErr result (IsCheckRefusal group.now (wave_vector report.now.wave)) }

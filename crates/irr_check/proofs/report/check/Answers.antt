@@ -9,10 +9,10 @@ use Rattle.irr_check.proofs.Verdicts.{complete_of_yes, verdict_meant_of}
 use Rattle.irr_check.proofs.report.check.Goals as goal
 
 pub returns-in_ok-verdict-in-Ok-clause-verdict : goal.returns-in_ok-verdict-in-Ok-clause-verdict
-returns-in_ok-verdict-in-Ok-clause-verdict g c steps =
+returns-in_ok-verdict-in-Ok-clause-verdict g c =
     let group = c.args.group.now in
     let report = c.args.report.now in
-    verdict_meant_of (sign_of group.phase) (stands_for group) (content_of report) (sizes_of report c.requires) steps c.in_ok-verdict-in-Ok.ensures
+    verdict_meant_of (sign_of group.phase) (stands_for group) (content_of report) (sizes_of report c.requires) c.in_ok-verdict-in-Ok.ensures
 
 pub returns-in_ok-verdict-in-Ok-clause-yes : goal.returns-in_ok-verdict-in-Ok-clause-yes
 returns-in_ok-verdict-in-Ok-clause-yes g c is_yes =
