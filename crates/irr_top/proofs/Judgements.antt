@@ -1,8 +1,8 @@
 -- Verdicts of one group.
---   judged_along      a verdict for a group is one for the group that its generators generate
---   order_within      the order of the wave vector on which there is a verdict
---   judged_once       generators have one verdict on a report
-use Rattle.std.proofs.Common.{◌≡◌, ◌≤◌, ap, subst, ℕ, List}
+--   reply_along       the verdict for a group is the reply for the group that its generators generate
+--   verdict_within    and the order that it needs is within the limit
+--   no_verdict_along  so is an order that is too large
+use Rattle.std.proofs.Common.{◌≡◌, ◌<◌, ◌≤◌, ap, subst, refl, ℕ, List}
 use Rattle.irr_space.specs.Operation.{Operation}
 use Rattle.irr_space.specs.Reciprocal.{Sign, IsOrder}
 use Rattle.irr_space.specs.Reciprocal.Sign.{minus}
@@ -11,46 +11,41 @@ use Rattle.irr_seitz.specs.PhaseMeaning.{sign_of}
 use Rattle.irr_seitz.specs.declared.op.Op.{Op}
 use Rattle.irr_close.specs.StandsFor.{stands_for}
 use Rattle.irr_close.specs.declared.group.Group.{Group}
-use Rattle.irr_check.specs.Trials.{Reading}
-use Rattle.irr_check.specs.Trials.Reading.{dimensions, meaning}
-use Rattle.irr_check.specs.Verdict.{HaveSteps, IsCompleteReport, IsVerdict}
+use Rattle.irr_check.specs.Trials.Reading.{meaning}
+use Rattle.irr_check.specs.Verdict.{IsVerdict}
 use Rattle.irr_check.specs.Verdict.IsVerdict.{other_order, other_operations, of_families}
 use Rattle.irr_check.specs.declared.verdict.Verdict.{Verdict}
-use Rattle.irr_check.specs.declared.verdict.Verdict.TheVariants.{Yes}
-use Rattle.irr_check.proofs.Along.{complete_along, order_along, steps_along, verdict_along}
-use Rattle.irr_check.proofs.OneVerdict.{one_verdict}
-use Rattle.irr_top.specs.Asked.{order_limit}
+use Rattle.irr_check.proofs.Along.{order_along, verdict_along}
 use Rattle.irr_top.specs.GroupOf.{IsGroupOf, group_of}
-use Rattle.irr_top.specs.Judged.{IsJudged}
+use Rattle.irr_top.specs.CheckCommand.{IsCheckReply, verdict_status, verdict_text}
+use Rattle.irr_top.specs.Question.Question.{check}
+use Rattle.irr_top.specs.Answer.{AreWithin, IsTooLargeAt, order_limit}
+use Rattle.irr_top.specs.declared.status.Status.{Status}
+use Rattle.irr_top.proofs.Orders.{first_above, one_within}
 
 module _ (group : Group) (gens : List Op) (is : IsGroupOf group gens) (r : ReportContent) where
   abbrev G : Operation → Type 0
   G = stands_for group
 
-  abbrev s : Sign
-  s = sign_of group.phase
+  verdict_there : {v : Verdict} → IsVerdict meaning (sign_of group.phase) G r v → IsVerdict meaning minus (group_of gens) r v
+  verdict_there {v} h = subst (λ x. IsVerdict meaning x (group_of gens) r v) (ap sign_of is.phase)
+      (verdict_along G (group_of gens) is.stands meaning (sign_of group.phase) r h)
 
-  judged_there : (v : Verdict) → IsVerdict dimensions s G r v → (HaveSteps s G r.wave → IsVerdict meaning s G r v)
-      → (v ≡ Yes → IsCompleteReport s G r) → IsJudged s (group_of gens) r v
-  judged_there v tried meant complete = record {
-    tried = verdict_along G (group_of gens) is.stands dimensions s r tried;
-    meant = λ steps. verdict_along G (group_of gens) is.stands meaning s r (meant (steps_along (group_of gens) G (λ g. ((is.stands g).1, (is.stands g).0)) s r.wave steps));
-    complete = λ e. complete_along G (group_of gens) is.stands s r (complete e);
-  }
+  pub reply_along : {v : Verdict} {s : Status} {text : List ℕ} → IsVerdict meaning (sign_of group.phase) G r v → s ≡ verdict_status v
+      → text ≡ verdict_text v → IsCheckReply (group_of gens) r s text
+  reply_along {v} h e f = record { verdict = v; is_verdict = verdict_there h; is_status = e; is_text = f }
 
-  pub judged_along : (v : Verdict) → IsVerdict dimensions s G r v → (HaveSteps s G r.wave → IsVerdict meaning s G r v)
-      → (v ≡ Yes → IsCompleteReport s G r) → IsJudged minus (group_of gens) r v
-  judged_along v tried meant complete = subst (λ x. IsJudged x (group_of gens) r v) (ap sign_of is.phase) (judged_there v tried meant complete)
+  some_order : {s : Sign} {v : Verdict} → IsVerdict meaning s G r v → (n : ℕ) × IsOrder G r.wave n
+  some_order (other_order {n = n} o d) = (n, o)
+  some_order (other_operations ops o n f) = (r.order, o)
+  some_order (of_families ops T F n t e f) = (T.order, t.is_order)
 
-  some_order : (w : Reading) {v : Verdict} → IsVerdict w s G r v → (n : ℕ) × IsOrder G r.wave n
-  some_order w (other_order {n = n} o d) = (n, o)
-  some_order w (other_operations ops o n f) = (r.order, o)
-  some_order w (of_families ops T F n t e f) = (T.order, t.is_order)
+  order_there : (n : ℕ) → IsOrder G r.wave n → IsOrder (group_of gens) r.wave n
+  order_there = order_along G (group_of gens) is.stands r.wave
 
-  pub order_within : {v : Verdict} → IsVerdict dimensions s G r v → ((n : ℕ) → IsOrder G r.wave n → n ≤ order_limit)
-      → (n : ℕ) × IsOrder (group_of gens) r.wave n × (n ≤ order_limit)
-  order_within tried within = let o = some_order dimensions tried in (o.0, order_along G (group_of gens) is.stands r.wave o.0 o.1, within o.0 o.1)
+  pub verdict_within : {v : Verdict} → IsVerdict meaning (sign_of group.phase) G r v → ((n : ℕ) → IsOrder G r.wave n → n ≤ order_limit)
+      → AreWithin (check r) (group_of gens)
+  verdict_within h within = let o = some_order h in one_within (group_of gens) r.wave o.0 (order_there o.0 o.1) (within o.0 o.1)
 
-pub judged_once : (gens : List Op) (r : ReportContent) (v u : Verdict) → IsJudged minus (group_of gens) r v → IsJudged minus (group_of gens) r u
-    → v ≡ u
-judged_once gens r v u j i = one_verdict dimensions minus (group_of gens) r j.tried i.tried
+  pub no_verdict_along : (n : ℕ) → IsOrder G r.wave n → order_limit < n → IsTooLargeAt (check r) (group_of gens) n
+  no_verdict_along n o l = first_above (check r) (group_of gens) n (refl, order_there n o) l

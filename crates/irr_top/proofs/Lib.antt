@@ -4,6 +4,7 @@ pub mod InputBytes
 pub mod Numerators
 pub mod Groups
 pub mod Outcomes
+pub mod Orders
 pub mod SameGenerators
 pub mod Along
 pub mod Judgements
@@ -11,7 +12,6 @@ pub mod Members
 pub mod ModestLists
 pub mod SmallTexts
 pub mod Reports
-pub mod Numbers
 pub mod RequestWords
 pub mod FirstPieces
 pub mod FirstArms

@@ -1,8 +1,9 @@
 -- The text of a report at a wave vector, from that on the table of the little group of its reduced wave vector.
---   small_text_of, no_report_of     a report, or why there is none
---   text_from, refusal_from         the same of an answer
---   order_there                     the order
-use Rattle.std.proofs.Common.{ap, subst, refl, ℕ, ◌≤◌, List, Vec, Global, Result, Ok, Err, IfOk, IfErr}
+--   order_there        the order
+--   small_text_of      a report
+--   table_steps        each subgroup of the table has a step
+--   small_reply_of     the text is the reply
+use Rattle.std.proofs.Common.{ap, subst, refl, ℕ, ◌≤◌, List}
 use Rattle.irr_algebra.specs.Fin.{Fin}
 use Rattle.irr_space.specs.Operation.{Operation, WaveVector}
 use Rattle.irr_space.specs.Reciprocal.{IsOrder, IsReduced}
@@ -13,18 +14,21 @@ use Rattle.irr_space.specs.PhaseTable.{PhaseTable, IsTableOf}
 use Rattle.irr_text.specs.ReportText.{list_report}
 use Rattle.irr_seitz.specs.PhaseMeaning.{sign_of}
 use Rattle.irr_seitz.specs.declared.op.Op.{Op}
+use Rattle.irr_chain.specs.NormalSubgroup.{HasSteps}
+use Rattle.irr_steps.proofs.Tables.{tables_have_steps}
 use Rattle.irr_cocycle.proofs.Reciprocals.{equivalent_sym}
 use Rattle.irr_close.specs.StandsFor.{stands_for}
 use Rattle.irr_close.specs.declared.group.Group.{Group}
 use Rattle.irr_little.specs.Table.{IsLittleTable, listed_operations}
 use Rattle.irr_little.proofs.Spaces.{form_of}
 use Rattle.irr_check.proofs.Along.{numbering_along, order_along, table_along}
-use Rattle.irr_top.specs.Asked.{order_limit}
+use Rattle.irr_top.specs.Answer.{AreWithin, order_limit}
 use Rattle.irr_top.specs.GroupOf.{IsGroupOf, group_of}
-use Rattle.irr_top.specs.LittleTable.{IsTableAt}
-use Rattle.irr_top.specs.SmallText.{IsListText, IsTableRefusal, IsSmallText, IsNoReport}
-use Rattle.irr_top.specs.declared.small_text.NoReport.{NoReport}
-use Rattle.irr_top.specs.declared.small_text.NoReport.TheVariants.{OrderTooLarge, Unchained, Memory}
+use Rattle.irr_top.specs.ListText.{IsListText, IsModestText}
+use Rattle.irr_top.specs.Question.Question.{small}
+use Rattle.irr_top.specs.SmallCommand.{IsSmallReply}
+use Rattle.irr_top.specs.declared.status.Status.TheVariants.{Done}
+use Rattle.irr_top.proofs.Orders.{one_within}
 use Rattle.irr_top.proofs.Groups.{is_group, order_at}
 use Rattle.irr_top.proofs.Members.{some_item}
 
@@ -47,13 +51,10 @@ module _ (group : Group) (gens : List Op) (is : IsGroupOf group gens) (k w : Wav
     is_table = subst (λ s. IsTableOf s (group_of gens) w ops T) (ap sign_of is.phase)
         (table_along (stands_for group) (group_of gens) is.stands (sign_of group.phase) w ops T (table.table some_operation))
 
-    table_at : IsTableAt minus (group_of gens) k T
-    table_at = record { wave = w; reduced = reduced; operation = ops; numbering = numbering; is_table = is_table }
-
     is_order : IsOrder (group_of gens) k T.order
     is_order = order_there T.order (table.table some_operation).is_order
 
-    pub small_text_of : (text : List ℕ) → ((d : Op) → IsListText w (listed_operations group h xs d) T text) → IsSmallText gens k text
+    pub small_text_of : (text : List ℕ) → ((d : Op) → IsListText w (listed_operations group h xs d) T text) → IsModestText gens k text
     small_text_of text all = let t = all some_operation in record {
       order = T.order;
       is_order = is_order;
@@ -76,24 +77,13 @@ module _ (group : Group) (gens : List Op) (is : IsGroupOf group gens) (k w : Wav
       is_text = t.is_text;
     }
 
-    pub no_report_of : (e : NoReport) → IsTableRefusal T e → IsNoReport gens k e
-    no_report_of (OrderTooLarge n) r = absurd r
-    no_report_of (Unchained members) r = record {
-      order = T.order;
-      is_order = is_order;
-      within = within;
-      places = h;
-      table = T;
-      is_table = table_at;
-      is_unchained = r;
-    }
-    no_report_of Memory r = r
+    pub table_steps : HasSteps T
+    table_steps = tables_have_steps minus (group_of gens) (IsInLittleGroup (group_of gens) w) w ops T numbering is_table
 
-    pub text_from : (r : Result (Vec ℕ Global) NoReport) → ((d : Op) → IfOk r (λ text. IsListText w (listed_operations group h xs d) T text.items))
-        → IfOk r (λ text. IsSmallText gens k text.items)
-    text_from (Ok text) all = small_text_of text.items all
-    text_from (Err e) all = tt
-
-    pub refusal_from : (r : Result (Vec ℕ Global) NoReport) → IfErr r (IsTableRefusal T) → IfErr r (IsNoReport gens k)
-    refusal_from (Ok text) e = tt
-    refusal_from (Err e) refused = no_report_of e refused
+-- the text is the reply
+pub small_reply_of : (gens : List Op) (k : WaveVector) (text : List ℕ) → IsModestText gens k text
+    → AreWithin (small k) (group_of gens) × IsSmallReply (group_of gens) k Done text
+small_reply_of gens k text t = (
+  one_within (group_of gens) k t.order t.is_order t.within,
+  (refl, record { content = t.content; is_report = t.is_report; is_text = t.is_text }),
+)

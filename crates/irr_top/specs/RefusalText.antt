@@ -1,12 +1,10 @@
 -- The lines that tell of a refusal: this project's own.
 --   refusal_text s     the line of a status that has one, with its line feed, and nothing for another status
---   numbers_text ns    the numbers, counted from 0, as they are printed: counted from 1, with a blank before each
 --   HasLine s          s is a refusal that has a line
 use Rattle.std.specs.Prelude.{ℕ, suc, ⊤, List, [], ◌∷◌, ◌++◌, codes}
-use Rattle.std.specs.List.{flat_map}
 use Rattle.std.specs.Fmt.{decimal}
 use Rattle.irr_top.specs.declared.status.Status.{Status}
-use Rattle.irr_top.specs.declared.status.Status.TheVariants.{Done, Rejected, Usage, BadInput, TooLarge, ReadFault, WriteFault, Memory, Unchained}
+use Rattle.irr_top.specs.declared.status.Status.TheVariants.{Done, Rejected, Usage, BadInput, TooLarge, ReadFault, WriteFault, Memory}
 use Rattle.irr_input.specs.declared.input.Reason.{Reason}
 use Rattle.irr_input.specs.declared.input.Reason.TheVariants.{Shape, Zero, Range, Determinant, Missing, Report as ReportFault}
 use Rattle.irr_top.specs.declared.status.Kind.{Kind}
@@ -29,9 +27,6 @@ kind_text Denominator = codes "denominator"
 kind_text Centrings = codes "centrings"
 kind_text (Order n) = codes "order " ++ decimal n
 
-unfoldable pub numbers_text : List ℕ → List ℕ
-numbers_text ns = flat_map (λ n. 32 ∷ decimal (suc n)) ns
-
 abbrev pub refusal_text : Status → List ℕ
 refusal_text Done = []
 refusal_text (Rejected clause rep i j) = []
@@ -41,7 +36,6 @@ refusal_text (TooLarge kind) = codes "too large: " ++ kind_text kind ++ 10 ∷ [
 refusal_text ReadFault = []
 refusal_text WriteFault = []
 refusal_text Memory = []
-refusal_text (Unchained members) = codes "unchained:" ++ numbers_text members.items ++ 10 ∷ []
 
 -- a refusal that has a line
 abbrev pub HasLine : Status → Type 0
@@ -53,4 +47,3 @@ HasLine (TooLarge kind) = ⊤
 HasLine ReadFault = ⊥
 HasLine WriteFault = ⊥
 HasLine Memory = ⊥
-HasLine (Unchained members) = ⊤

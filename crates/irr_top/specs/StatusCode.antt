@@ -2,7 +2,7 @@
 --   code_of s     the exit status of a program that ends with the status s
 use Rattle.std.specs.Prelude.{ℕ}
 use Rattle.irr_top.specs.declared.status.Status.{Status}
-use Rattle.irr_top.specs.declared.status.Status.TheVariants.{Done, Rejected, Usage, BadInput, TooLarge, ReadFault, WriteFault, Memory, Unchained}
+use Rattle.irr_top.specs.declared.status.Status.TheVariants.{Done, Rejected, Usage, BadInput, TooLarge, ReadFault, WriteFault, Memory}
 
 abbrev pub code_of : Status → ℕ
 code_of Done = 0
@@ -13,4 +13,3 @@ code_of (TooLarge kind) = 4
 code_of ReadFault = 5
 code_of WriteFault = 6
 code_of Memory = 7
-code_of (Unchained members) = 8

@@ -1,20 +1,16 @@
 // Laws on what is asked for.
-ghost use Rattle.std.specs.Prelude.{ℕ, List, ◌≡◌, ◌⊎◌};
+ghost use Rattle.std.specs.Prelude.{ℕ, List, ◌≡◌};
 ghost use Rattle.irr_space.specs.Operation.{WaveVector};
 ghost use Rattle.irr_space.specs.Reciprocal.{Sign};
 ghost use Rattle.irr_seitz.specs.declared.op.Op.{Op};
 ghost use Rattle.irr_text.specs.StarText.{StarContent, IsStarOf};
 ghost use Rattle.irr_top.specs.GroupOf.{group_of};
-ghost use Rattle.irr_top.specs.Asked.{Asks, HaveSteps, IsPastLimits};
+ghost use Rattle.irr_top.specs.Asked.{Asks};
 ghost use Rattle.irr_top.specs.declared.status.Status.{Status};
 
-/// Words and the bytes of an input ask for one status, where the tables of their little group have steps; without that premise for
-/// one refusal or verdict of no, or for no refusal but `Unchained`.
+/// Words and the bytes of an input ask for one status.
 pub fn one_status_is_asked_for()
-    ensures with_steps { (words : List (List ℕ)) (bytes text other : List ℕ) (s t : Status) → HaveSteps words bytes
-        → Asks words bytes s text → Asks words bytes t other → s ≡ t }
-    ensures refusals { (words : List (List ℕ)) (bytes text other : List ℕ) (s t : Status)
-        → Asks words bytes s text → Asks words bytes t other → (s ≡ t) ⊎ (IsPastLimits s × IsPastLimits t) }
+    ensures { (words : List (List ℕ)) (bytes text other : List ℕ) (s t : Status) → Asks words bytes s text → Asks words bytes t other → s ≡ t }
 {}
 
 /// A wave vector of the group of generators has one star, and so the star one text.

@@ -1,7 +1,6 @@
 // The lines that tell of a refusal.
-ghost use Rattle.std.specs.Prelude.{suc, ◌≡◌, ◌++◌, ◌∷◌, [], IfOk, OnOk, codes, string_bytes};
-ghost use Rattle.std.specs.Fmt.{decimal};
-ghost use Rattle.irr_top.specs.RefusalText.{HasLine, numbers_text, refusal_text};
+ghost use Rattle.std.specs.Prelude.{suc, ◌≡◌, IfOk, string_bytes};
+ghost use Rattle.irr_top.specs.RefusalText.{HasLine, refusal_text};
 ghost use Rattle.irr_top.specs.Ended.{Ended};
 
 use crate::status::{Kind, Status};
@@ -26,7 +25,6 @@ fn line(alloc: Global, status: &Status) -> Result<String, AllocError>
         Status::Usage(n) => format!(in alloc; "usage {n}\n"),
         Status::BadInput { line, reason } => bad_line(alloc, *line, *reason),
         Status::TooLarge(kind) => large_line(alloc, *kind),
-        Status::Unchained(members) => unchained_line(alloc, members),
         Status::Done
         | Status::Rejected { .. }
         | Status::ReadFault
@@ -79,31 +77,9 @@ fn column_of(place: u64) -> u128
     u128::from(place) + 1
 }
 
-// The line of a subgroup that has no normal subgroup of index 2 or 3. Its members count from 1 in print.
-fn unchained_line(alloc: Global, members: &[u32]) -> Result<String, AllocError>
-    ensures { IfOk result (λ text. string_bytes text ≡ codes "unchained:" ++ numbers_text members.now ++ 10 ∷ []) }
-{
-    let mut text = String::from_str(alloc, "unchained:")?;
-    for member in members {
-        push_number(alloc, &mut text, *member)?;
-    }
-    text.push_str("\n")?;
-    Ok(text)
-}
-
-// Appends a blank and a number that counts from 0, as it is printed: from 1.
-fn push_number(alloc: Global, text: &mut String, number: u32) -> Result<(), AllocError>
-    ensures { OnOk result (string_bytes text.new ≡ string_bytes text.old ++ 32 ∷ decimal (suc number)) }
-{
-    let printed = u64::from(number) + 1;
-    let word = format!(in alloc; " {printed}")?;
-    text.push_str(word.as_str())?;
-    Ok(())
-}
-
 /// Writes a text, and ends with its status.
 pub fn finish<O: Sink>(status: Status, text: &[u8], sink: &mut O) -> Status
-    ensures { Ended status text.now (O.faults sink.old) (O.faults sink.new) (O.held sink.old) (O.held sink.new) (O.writes sink.old) (O.writes sink.new) result }
+    ensures { Ended status text.now (O.view sink.old) (O.view sink.new) result }
 {
     match write_all(sink, text) {
         Ok(()) => status,
@@ -114,7 +90,7 @@ pub fn finish<O: Sink>(status: Status, text: &[u8], sink: &mut O) -> Status
 /// Writes the line of a refusal, and ends with it.
 pub fn refuse<O: Sink>(alloc: Global, status: Status, sink: &mut O) -> Status
     requires { HasLine status }
-    ensures { Ended status (refusal_text status) (O.faults sink.old) (O.faults sink.new) (O.held sink.old) (O.held sink.new) (O.writes sink.old) (O.writes sink.new) result }
+    ensures { Ended status (refusal_text status) (O.view sink.old) (O.view sink.new) result }
 {
     match text_refusal(alloc, &status) {
         Ok(text) => finish(status, &text, sink),

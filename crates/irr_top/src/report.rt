@@ -14,7 +14,7 @@ ghost use Rattle.irr_climb.specs.Sizes.{HasSmallNumbers};
 ghost use Rattle.irr_report.specs.Content.{FitsTogether};
 ghost use Rattle.irr_report.specs.OfList.{IsReportOfList};
 ghost use Rattle.irr_top.specs.Members.{IsMember, HasTraces};
-ghost use Rattle.irr_top.specs.SmallText.{IsListText};
+ghost use Rattle.irr_top.specs.ListText.{IsListText};
 
 use irr_char::character;
 use irr_close::Group;

@@ -22,7 +22,7 @@ pub enum Kind {
 }
 
 /// How a run ends.
-#[derive(Debug, PartialEq, Eq, Drop)]
+#[derive(Clone, Copy, Debug, PartialEq, Eq)]
 pub enum Status {
     /// The text that was asked for is written.
     Done,
@@ -49,9 +49,6 @@ pub enum Status {
     WriteFault,
     /// Memory was wanting. Nothing is written then.
     Memory,
-    /// These operations of the little group, counted from 0, are a subgroup modulo translations of more than one
-    /// element that has no normal subgroup of index 2 or 3.
-    Unchained(Vec<u32>),
 }
 
 impl Status {
@@ -70,7 +67,6 @@ impl Status {
             Status::ReadFault => 5,
             Status::WriteFault => 6,
             Status::Memory => 7,
-            Status::Unchained(_) => 8,
         }
     }
 }

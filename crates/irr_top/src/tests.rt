@@ -568,10 +568,6 @@ fn a_line_of_a_refusal_is_made(rt: HostRuntime) -> Result<(), Fail> {
         let line = text_refusal(rt.alloc(), &status)?;
         assert_eq!(rt; line.as_slice(), expected.as_bytes());
     }
-    let status = Status::Unchained(vec![in rt.alloc(); 0, 2, 11]?);
-    let line = text_refusal(rt.alloc(), &status)?;
-    assert_eq!(rt; line.as_slice(), b"unchained: 1 3 12\n".as_slice());
-    assert_eq!(rt; status.code(), 8);
     assert_eq!(rt; Status::TooLarge(Kind::Bytes).code(), 4);
     assert_eq!(rt; Status::Memory.code(), 7);
     Ok(())
