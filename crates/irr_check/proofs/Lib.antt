@@ -12,6 +12,6 @@ mod RowDifferences
 mod OperationLists
 mod FamilyFacts
 mod PairFacts
-mod Verdicts
+pub mod Verdicts
 mod ReportVerdicts
 mod MadeReports
