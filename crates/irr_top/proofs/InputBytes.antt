@@ -5,7 +5,7 @@
 --   some_bytes     some bytes are all that a source had
 use Rattle.std.proofs.Common.{◌≡◌, ◌∙◌, ap, refl, ℕ, ◌<◌, ◌+◌, [], List, Option, Some, None, length, arith, length-append}
 use Rattle.irr_io.specs.Told.{IsEmptied, LosesAll, LosesFront}
-use Rattle.irr_top.specs.Ended.{IsAllOf}
+use Rattle.irr_top.specs.Outcome.{IsAllOf}
 
 pub all_read : (old new : Option (List ℕ)) (bytes : List ℕ) → LosesAll old new bytes → IsAllOf old bytes
 all_read None None bytes h = tt

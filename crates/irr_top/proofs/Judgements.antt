@@ -2,20 +2,28 @@
 --   reply_along       the verdict for a group is the reply for the group that its generators generate
 --   verdict_within    and the order that it needs is within the limit
 --   no_verdict_along  so is an order that is too large
-use Rattle.std.proofs.Common.{◌≡◌, ◌<◌, ◌≤◌, ap, subst, refl, ℕ, List}
+--   input_complete    Yes on a report that was read means a complete list
+use Rattle.std.proofs.Common.{◌≡◌, ◌<◌, ◌≤◌, ap, subst, refl, ℕ, List, Some}
 use Rattle.irr_space.specs.Operation.{Operation}
 use Rattle.irr_space.specs.Reciprocal.{Sign, IsOrder}
 use Rattle.irr_space.specs.Reciprocal.Sign.{minus}
 use Rattle.irr_text.specs.ReportText.{ReportContent}
 use Rattle.irr_seitz.specs.PhaseMeaning.{sign_of}
 use Rattle.irr_seitz.specs.declared.op.Op.{Op}
+use Rattle.irr_triplet.specs.TripletFault.{IsTextOf}
+use Rattle.irr_report.specs.ReportFault.{IsWaveText}
+use Rattle.irr_report.proofs.ReadLimits.{read-limited}
+use Rattle.irr_input.specs.InputLines.{IsInput}
+use Rattle.irr_input.specs.declared.input.GenLine.{GenLine}
 use Rattle.irr_close.specs.StandsFor.{stands_for}
 use Rattle.irr_close.specs.declared.group.Group.{Group}
 use Rattle.irr_check.specs.Trials.Reading.{meaning}
-use Rattle.irr_check.specs.Verdict.{IsVerdict}
+use Rattle.irr_check.specs.Verdict.{IsCompleteReport, IsVerdict}
 use Rattle.irr_check.specs.Verdict.IsVerdict.{other_order, other_operations, of_families}
 use Rattle.irr_check.specs.declared.verdict.Verdict.{Verdict}
+use Rattle.irr_check.specs.declared.verdict.Verdict.TheVariants.{Yes}
 use Rattle.irr_check.proofs.Along.{order_along, verdict_along}
+use Rattle.irr_check.proofs.Verdicts.{meant_is_complete}
 use Rattle.irr_top.specs.GroupOf.{IsGroupOf, group_of}
 use Rattle.irr_top.specs.CheckCommand.{IsCheckReply, verdict_status, verdict_text}
 use Rattle.irr_top.specs.Question.Question.{check}
@@ -49,3 +57,8 @@ module _ (group : Group) (gens : List Op) (is : IsGroupOf group gens) (r : Repor
 
   pub no_verdict_along : (n : ℕ) → IsOrder G r.wave n → order_limit < n → IsTooLargeAt (check r) (group_of gens) n
   no_verdict_along n o l = first_above (check r) (group_of gens) n (refl, order_there n o) l
+
+pub input_complete : (bytes : List ℕ) (lines : List GenLine) (gens : List Op) (r : ReportContent) → IsInput bytes lines (Some r)
+    → IsVerdict meaning minus (group_of gens) r Yes → IsCompleteReport minus (group_of gens) r
+input_complete bytes lines gens r i verdict = meant_is_complete minus (group_of gens) r
+    (read-limited IsWaveText IsTextOf i.section r i.is_section.1).some_row verdict

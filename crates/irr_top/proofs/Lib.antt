@@ -5,6 +5,7 @@ pub mod Numerators
 pub mod Groups
 pub mod Outcomes
 pub mod Orders
+pub mod Statuses
 pub mod SameGenerators
 pub mod Along
 pub mod Judgements

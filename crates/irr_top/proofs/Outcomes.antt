@@ -7,11 +7,11 @@ use Rattle.std.proofs.Common.{◌≡◌, sym, ◌∙◌, subst, refl, ℕ, ◌�
 use Rattle.irr_io.specs.Views.{SourceView, SinkView}
 use Rattle.irr_top.specs.Asked.{Asks}
 use Rattle.irr_top.specs.Asked.Asks.{faulty_word}
-use Rattle.irr_top.specs.Ended.{Ended, Serves, IsAllOf, OutcomeOf, Outcome, IsOwed, Failed}
-use Rattle.irr_top.specs.Ended.Ended.{whole, cut_off, no_memory}
-use Rattle.irr_top.specs.Ended.Serves.{serves, without_memory}
-use Rattle.irr_top.specs.Ended.OutcomeOf.{answered, read_fault}
-use Rattle.irr_top.specs.Ended.IsOwed.{by_words, by_bytes}
+use Rattle.irr_top.specs.Outcome.{Ended, Serves, IsAllOf, OutcomeOf, Outcome, IsOwed, IsFailure}
+use Rattle.irr_top.specs.Outcome.Ended.{whole, cut_off, no_memory}
+use Rattle.irr_top.specs.Outcome.Serves.{serves, without_memory}
+use Rattle.irr_top.specs.Outcome.OutcomeOf.{answered, read_fault}
+use Rattle.irr_top.specs.Outcome.IsOwed.{by_words, by_bytes}
 use Rattle.irr_top.specs.declared.status.Status.{Status}
 use Rattle.irr_top.specs.declared.status.Status.TheVariants.{WriteFault, Memory}
 use Rattle.irr_top.proofs.OneAnswer.{asked_once}
@@ -44,21 +44,21 @@ module _ (words : List (List ℕ)) where
       (subst (λ l. Asks words l t text) (same_bytes source.left bytes all e h) a) b
 
   ended_owed : {source : SourceView} {sink written : SinkView} {s u t : Status} {text : List ℕ} (all : List ℕ) → IsAllOf source.left all
-      → Asks words all u text → Ended u text sink written t → IsOwed words source s → (t ≡ s) ⊎ Failed t
+      → Asks words all u text → Ended u text sink written t → IsOwed words source s → (t ≡ s) ⊎ IsFailure t
   ended_owed all h a (whole g w) o = inl (same_status all h a o)
   ended_owed all h a (cut_off r g w) o = inr tt
   ended_owed all h a (no_memory e) o = inr tt
 
   served_owed : {source : SourceView} {sink written : SinkView} {s t : Status} (all : List ℕ) → IsAllOf source.left all
-      → Serves (Asks words all) sink written t → IsOwed words source s → (t ≡ s) ⊎ Failed t
+      → Serves (Asks words all) sink written t → IsOwed words source s → (t ≡ s) ⊎ IsFailure t
   served_owed all h (serves a e) o = ended_owed all h a e o
   served_owed all h (without_memory e) o = inr tt
 
   outcome_owed : {source read : SourceView} {sink written : SinkView} {s t : Status} → OutcomeOf (Asks words) source read sink written t
-      → IsOwed words source s → (t ≡ s) ⊎ Failed t
+      → IsOwed words source s → (t ≡ s) ⊎ IsFailure t
   outcome_owed (answered all h s end) o = served_owed all h s o
   outcome_owed (read_fault r h) o = inr tt
 
   pub owed : {source read : SourceView} {sink written : SinkView} {s t : Status} → Outcome words source read sink written t
-      → IsOwed words source s → (t ≡ s) ⊎ Failed t
+      → IsOwed words source s → (t ≡ s) ⊎ IsFailure t
   owed o = outcome_owed o.ends

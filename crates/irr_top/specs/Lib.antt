@@ -8,7 +8,8 @@ pub mod SmallCommand
 pub mod CheckCommand
 pub mod Answer
 pub mod Asked
-pub mod Ended
+pub mod Outcome
+pub mod Answered
 pub mod Task
 pub mod Members
 pub mod ListText

@@ -12,7 +12,7 @@ ghost use Rattle.irr_top.specs.Request.{command_of};
 ghost use Rattle.irr_top.specs.GroupOf.{IsGroupOf, group_of};
 ghost use Rattle.irr_top.specs.Answer.{AsksOfGroup, IsReplied, IsNoReply};
 ghost use Rattle.irr_top.specs.Asked.{AsksOfBytes, AsksOfLines, AsksOfInput, AsksOfGenerators, input_limit, operations_of, passed_limit};
-ghost use Rattle.irr_top.specs.Ended.{OutcomeOf, Serves};
+ghost use Rattle.irr_top.specs.Outcome.{OutcomeOf, Serves};
 ghost use Rattle.irr_top.specs.Task.{asked_by, IsLimited};
 
 use crate::check::check_reply;

@@ -17,7 +17,10 @@ mod top;
 pub use check::text_verdict;
 pub use irr_check::{Clause, Verdict};
 pub use irr_input::Reason;
-pub use laws::{one_star_of_a_wave_vector, one_status_is_asked_for};
+pub use laws::{
+    an_outcome_status_by_status, one_star_of_a_wave_vector, one_status_is_asked_for,
+    yes_is_for_complete_reports,
+};
 pub use refusal::text_refusal;
 pub use star::text_star;
 pub use status::{Kind, Status};

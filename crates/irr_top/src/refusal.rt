@@ -1,7 +1,7 @@
 // The lines that tell of a refusal.
 ghost use Rattle.std.specs.Prelude.{suc, ◌≡◌, IfOk, string_bytes};
 ghost use Rattle.irr_top.specs.RefusalText.{HasLine, refusal_text};
-ghost use Rattle.irr_top.specs.Ended.{Ended};
+ghost use Rattle.irr_top.specs.Outcome.{Ended};
 
 use crate::status::{Kind, Status};
 use irr_input::Reason;

@@ -3,7 +3,7 @@ ghost use Rattle.std.specs.Prelude.{◌≡◌, ◌+◌, ◌⊎◌};
 ghost use Rattle.irr_io.specs.Count.{CountsAtMost};
 ghost use Rattle.irr_input.specs.Command.{texts};
 ghost use Rattle.irr_top.specs.Asked.{input_limit};
-ghost use Rattle.irr_top.specs.Ended.{Outcome, IsOwed, Failed};
+ghost use Rattle.irr_top.specs.Outcome.{Outcome, IsOwed, IsFailure};
 ghost use Rattle.irr_top.specs.declared.status.Status.{Status};
 
 use crate::answer::answer;
@@ -25,7 +25,7 @@ pub fn run<I: Source, O: Sink>(
     ensures outcome { Outcome (texts words.now) (I.view source.old) (I.view source.new) (O.view sink.old) (O.view sink.new) result }
 
     // What is asked for is answered, unless a stream fails or memory is wanting.
-    ensures asked { (s : Status) → IsOwed (texts words.now) (I.view source.old) s → (result ≡ s) ⊎ Failed result }
+    ensures asked { (s : Status) → IsOwed (texts words.now) (I.view source.old) s → (result ≡ s) ⊎ IsFailure result }
 
     // The input is read in few reads.
     ensures reads { CountsAtMost (input_limit + 2) (I.view source.old).reads (I.view source.new).reads }

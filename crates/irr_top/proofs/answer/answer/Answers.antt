@@ -3,9 +3,9 @@ use Rattle.std.proofs.Common.{◌≡◌, refl, subst, rules, ℕ, ◌≤◌, Lis
 use Rattle.irr_io.specs.Views.{SinkView}
 use Rattle.irr_top.specs.Asked.{AsksOfBytes, AsksOfLines, input_limit}
 use Rattle.irr_top.specs.Asked.AsksOfBytes.{too_long, lines}
-use Rattle.irr_top.specs.Ended.{Serves}
-use Rattle.irr_top.specs.Ended.Serves.{serves, without_memory}
-use Rattle.irr_top.specs.Ended.OutcomeOf.{answered, read_fault}
+use Rattle.irr_top.specs.Outcome.{Serves}
+use Rattle.irr_top.specs.Outcome.Serves.{serves, without_memory}
+use Rattle.irr_top.specs.Outcome.OutcomeOf.{answered, read_fault}
 use Rattle.irr_top.specs.declared.request.Request.{Request}
 use Rattle.irr_top.specs.declared.status.Status.{Status}
 use Rattle.irr_top.specs.declared.status.Status.TheVariants.{Done, Memory}

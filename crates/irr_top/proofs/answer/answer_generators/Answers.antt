@@ -1,7 +1,7 @@
 -- What a task is answered, where the generators are known.
 use Rattle.std.proofs.Common.{sym, ◌∙◌, refl}
 use Rattle.irr_top.specs.Asked.AsksOfGenerators.{refused, group}
-use Rattle.irr_top.specs.Ended.Serves.{serves, without_memory}
+use Rattle.irr_top.specs.Outcome.Serves.{serves, without_memory}
 use Rattle.irr_top.specs.GroupOf.{IsGroupOf}
 use Rattle.irr_top.proofs.Numerators.{readable_generators, readable_unimodular}
 use Rattle.irr_top.proofs.Outcomes.{serves_more}

@@ -1,8 +1,8 @@
 -- What a task is answered, where the group is known.
 use Rattle.std.proofs.Common.{subst, refl, List, ℕ}
 use Rattle.irr_top.specs.Answer.AsksOfGroup.{order_too_large, reply}
-use Rattle.irr_top.specs.Ended.{Ended}
-use Rattle.irr_top.specs.Ended.Serves.{serves, without_memory}
+use Rattle.irr_top.specs.Outcome.{Ended}
+use Rattle.irr_top.specs.Outcome.Serves.{serves, without_memory}
 use Rattle.irr_top.proofs.answer.answer_group.Goals as goal
 
 pub returns-in-Ok : goal.returns-in-Ok

@@ -3,8 +3,8 @@ use Rattle.std.proofs.Common.{subst, refl, List}
 use Rattle.irr_input.specs.declared.input.GenLine.{GenLine}
 use Rattle.irr_top.specs.Asked.{AsksOfGenerators, operations_of}
 use Rattle.irr_top.specs.Asked.AsksOfInput.{missing, question}
-use Rattle.irr_top.specs.Ended.{Serves}
-use Rattle.irr_top.specs.Ended.Serves.{serves}
+use Rattle.irr_top.specs.Outcome.{Serves}
+use Rattle.irr_top.specs.Outcome.Serves.{serves}
 use Rattle.irr_top.specs.Task.{asked_by}
 use Rattle.irr_top.proofs.Outcomes.{serves_more}
 use Rattle.irr_top.proofs.answer.answer_input.Goals as goal

@@ -3,7 +3,7 @@ use Rattle.std.proofs.Common.{refl}
 use Rattle.irr_input.specs.InputLines.{content}
 use Rattle.irr_top.specs.Asked.{input_limit}
 use Rattle.irr_top.specs.Asked.AsksOfLines.{faulty_line, limited_line, input}
-use Rattle.irr_top.specs.Ended.Serves.{serves, without_memory}
+use Rattle.irr_top.specs.Outcome.Serves.{serves, without_memory}
 use Rattle.irr_top.proofs.LineNumbers.{lines_within}
 use Rattle.irr_top.proofs.Outcomes.{serves_more}
 use Rattle.irr_top.proofs.answer.answer_lines.Goals as goal

@@ -7,8 +7,8 @@ use Rattle.irr_seitz.specs.declared.op.Op.{Op}
 use Rattle.irr_triplet.specs.Readable.{IsReadable}
 use Rattle.irr_input.specs.declared.input.GenLine.{GenLine}
 use Rattle.irr_top.specs.Asked.{AsksOfGenerators}
-use Rattle.irr_top.specs.Ended.{Serves}
-use Rattle.irr_top.specs.Ended.Serves.{without_memory}
+use Rattle.irr_top.specs.Outcome.{Serves}
+use Rattle.irr_top.specs.Outcome.Serves.{without_memory}
 use Rattle.irr_top.specs.Task.{asked_by}
 use Rattle.irr_top.proofs.answer.answer_task.Goals as goal
 

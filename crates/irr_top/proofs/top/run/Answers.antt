@@ -6,9 +6,9 @@ use Rattle.irr_top.specs.RefusalText.{refusal_text}
 use Rattle.irr_top.specs.Request.{IsFaultyWord, IsRequested}
 use Rattle.irr_top.specs.Asked.{AsksOfBytes}
 use Rattle.irr_top.specs.Asked.Asks.{faulty_word, request}
-use Rattle.irr_top.specs.Ended.{Ended, OutcomeOf, Outcome}
-use Rattle.irr_top.specs.Ended.Serves.{serves}
-use Rattle.irr_top.specs.Ended.OutcomeOf.{answered}
+use Rattle.irr_top.specs.Outcome.{Ended, OutcomeOf, Outcome}
+use Rattle.irr_top.specs.Outcome.Serves.{serves}
+use Rattle.irr_top.specs.Outcome.OutcomeOf.{answered}
 use Rattle.irr_top.specs.declared.request.Request.{Request}
 use Rattle.irr_top.specs.declared.status.Status.{Status}
 use Rattle.irr_top.specs.declared.status.Status.TheVariants.{Done, Usage, ReadFault}

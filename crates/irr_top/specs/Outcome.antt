@@ -8,7 +8,7 @@
 --                                    Done the input was read to its end. Or a read failed, and nothing was written
 --   Outcome words source read sink written t      so for what words and the input ask for; and a read can fail only for a command
 --   IsOwed words source s            s is the status of faulty words; or the source tells all its bytes, and words and bytes ask for s
---   Failed t                         t tells that a stream failed or that memory was wanting
+--   IsFailure t                         t tells that a stream failed or that memory was wanting
 use Rattle.std.specs.Prelude.{ℕ, ◌≡◌, ⊤, Option, None, Some, List, length}
 use Rattle.std.specs.Io.{StartsWith}
 use Rattle.irr_io.specs.Count.{CountsAtMost}
@@ -45,12 +45,12 @@ pub data IsOwed (words : List (List ℕ)) (source : SourceView) : Status → Typ
   by_words : {n : ℕ} → IsFaultyWord words n → IsOwed words source (Usage n)
   by_bytes : {s : Status} (bytes text : List ℕ) → source.left ≡ Some bytes → Asks words bytes s text → IsOwed words source s
 
-abbrev pub Failed : Status → Type 0
-Failed Done = ⊥
-Failed (Rejected clause rep i j) = ⊥
-Failed (Usage n) = ⊥
-Failed (BadInput line reason) = ⊥
-Failed (TooLarge kind) = ⊥
-Failed ReadFault = ⊤
-Failed WriteFault = ⊤
-Failed Memory = ⊤
+abbrev pub IsFailure : Status → Type 0
+IsFailure Done = ⊥
+IsFailure (Rejected clause rep i j) = ⊥
+IsFailure (Usage n) = ⊥
+IsFailure (BadInput line reason) = ⊥
+IsFailure (TooLarge kind) = ⊥
+IsFailure ReadFault = ⊤
+IsFailure WriteFault = ⊤
+IsFailure Memory = ⊤
