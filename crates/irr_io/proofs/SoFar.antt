@@ -15,7 +15,8 @@ use Rattle.irr_io.specs.Told.{Grows, LosesFront}
 use Rattle.irr_io.specs.Views.{SourceView, SinkView, Gains, Takes}
 
 -- the bytes gained one piece and then another
-pub Grows-trans : (a b c : Option (List ℕ)) (first second : List ℕ) → Grows a b first → Grows b c second → Grows a c (first ++ second)
+pub Grows-trans : (a b c : Option (List ℕ)) (first second : List ℕ) → Grows a b first → Grows b c second
+    → Grows a c (first ++ second)
 Grows-trans None None None first second p q = p
 Grows-trans None None (Some z) first second p q = q
 Grows-trans None (Some y) c first second p q = absurd p
@@ -38,7 +39,8 @@ pub NeverFalls-trans : (a b c : ℕ) → NeverFalls a b → NeverFalls b c → N
 NeverFalls-trans a b c p q = (omega (arith, p.0, q.0), λ h. q.1 (p.1 h))
 
 -- a count of at most n after one more
-pub CountsAtMost-more : (n m : ℕ) (a b c : Option ℕ) → n + 1 ≤ m → CountsAtMost n a b → CountsOne b c → CountsAtMost m a c
+pub CountsAtMost-more : (n m : ℕ) (a b c : Option ℕ) → n + 1 ≤ m → CountsAtMost n a b → CountsOne b c
+    → CountsAtMost m a c
 CountsAtMost-more n m None None None h p q = p
 CountsAtMost-more n m None None (Some z) h p q = q
 CountsAtMost-more n m None (Some y) c h p q = absurd p
@@ -55,7 +57,8 @@ pub record WrittenSoFar (before after : SinkView) (bytes : List ℕ) (done : ℕ
 
 -- and after one more write, of the piece that stands behind them, which took n bytes
 pub WrittenSoFar-more : {before after next : SinkView} {bytes : List ℕ} {done : ℕ} (piece : List ℕ) (n : ℕ)
-    → WrittenSoFar before after bytes done → done < length bytes → piece ≡ drop done bytes → n ≤ length piece → (0 < length piece → 0 < n)
+    → WrittenSoFar before after bytes done → done < length bytes → piece ≡ drop done bytes → n ≤ length piece
+    → (0 < length piece → 0 < n)
     → Gains after next (take n piece) → NeverFalls after.faults next.faults → CountsOne after.writes next.writes
     → WrittenSoFar before next bytes (done + n)
 WrittenSoFar-more {before} {after} {next} {bytes} {done} piece n so_far below rest fits progress gained never_falls counted =
@@ -81,7 +84,8 @@ pub record FilledSoFar (before after : SourceView) (buffer : List ℕ) (filled l
 pub FilledSoFar-more : {before after next : SourceView} {buffer : List ℕ} {filled limit : ℕ} (buffer' : List ℕ) (n : ℕ)
     → FilledSoFar before after buffer filled limit → filled ≤ limit → take filled buffer' ≡ take filled buffer
     → filled + n ≤ length buffer' → (n ≡ 0 → ⊥)
-    → Takes after next (take n (drop filled buffer')) → NeverFalls after.faults next.faults → CountsOne after.reads next.reads
+    → Takes after next (take n (drop filled buffer')) → NeverFalls after.faults next.faults
+    → CountsOne after.reads next.reads
     → FilledSoFar before next buffer' (filled + n) limit
 FilledSoFar-more {before} {after} {next} {buffer} {filled} {limit} buffer' n so_far below front fits progress taken never_falls counted =
     let both = LosesFront-trans before.left after.left next.left (take filled buffer) (take n (drop filled buffer')) so_far.taken taken in

@@ -1,9 +1,9 @@
 -- What contracts see of a source and of a sink, and what one call changes in it.
---   SourceView                 the bytes that are left and the number of reads, where they are told, and the number of faults
---   SinkView                   the bytes that are held and the number of writes, where they are told, and the number of faults
+--   SourceView                 the bytes that are left and the number of reads, where they are told, and that of faults
+--   SinkView                   the bytes that are held and the number of writes, where they are told, and that of faults
 --   IsAtEnd view               no byte is left, where that is told
 --   Takes before after piece   a source gave piece, from the front of what it had left
---   TakesAll before after bytes    a source gave all that it had left, and this is bytes
+--   TakesAll before after bs   a source gave all that it had left, and this is bs
 --   Took before after P        a source gave some piece that meets P, from the front
 --   Gains before after piece   a sink took piece, at the end of what it held
 --   Gained before after P      a sink took some piece that meets P, at the end

@@ -186,7 +186,8 @@ impl Sink for MemSink {
         ensures no_fault { IfOk result (λ _. self.new.faults ≡ self.old.faults) }
         ensures amount { IfOk result (λ n. n
             ≡ min self.old.step (min (length piece.now) (self.old.room - length self.old.held))) }
-        ensures unchanged { (self.new.room ≡ self.old.room) × (self.new.step ≡ self.old.step) × (self.new.fails ≡ self.old.fails) }
+        ensures unchanged { (self.new.room ≡ self.old.room) × (self.new.step ≡ self.old.step)
+            × (self.new.fails ≡ self.old.fails) }
     {
         let left = self.room - self.held.len();
         let is_full = left == 0 && !piece.is_empty();

@@ -100,7 +100,8 @@ fn read_after<I: Source>(
     requires { filled < vec_len bytes.old }
     ensures front { take filled bytes.new.items ≡ take filled bytes.old.items }
     ensures fits { IfOk result (λ n. filled + n ≤ length bytes.new.items) }
-    ensures taken { IfOk result (λ n. Takes (I.view source.old) (I.view source.new) (take n (drop filled bytes.new.items))) }
+    ensures taken { IfOk result (λ n. Takes (I.view source.old) (I.view source.new)
+        (take n (drop filled bytes.new.items))) }
     ensures end { IfOk result (λ n. n ≡ 0 → IsAtEnd (I.view source.new)) }
     ensures kept { OnErr result ((I.view source.new).left ≡ (I.view source.old).left) }
     ensures failed { OnErr result (ReadFailed (I.view source.old) (I.view source.new)) }

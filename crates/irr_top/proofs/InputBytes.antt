@@ -19,7 +19,8 @@ at_end None (Some new) bytes h = absurd h
 at_end (Some old) None bytes h = absurd h
 at_end (Some old) (Some new) bytes h = h.1
 
-pub too_many : (limit : ℕ) (old new : Option (List ℕ)) → (piece : List ℕ) × LosesFront old new piece × (limit < length piece)
+pub too_many : (limit : ℕ) (old new : Option (List ℕ))
+    → (piece : List ℕ) × LosesFront old new piece × (limit < length piece)
     → (bytes : List ℕ) × (IsAllOf old bytes) × (limit < length bytes)
 too_many limit None None t = (t.0, tt, t.2)
 too_many limit None (Some new) t = absurd t.1

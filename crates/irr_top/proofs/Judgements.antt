@@ -35,11 +35,13 @@ module _ (group : Group) (gens : List Op) (is : IsGroupOf group gens) (r : Repor
   abbrev G : Operation → Type 0
   G = stands_for group
 
-  verdict_there : {v : Verdict} → IsVerdict meaning (sign_of group.phase) G r v → IsVerdict meaning minus (group_of gens) r v
+  verdict_there : {v : Verdict} → IsVerdict meaning (sign_of group.phase) G r v
+      → IsVerdict meaning minus (group_of gens) r v
   verdict_there {v} h = subst (λ x. IsVerdict meaning x (group_of gens) r v) (ap sign_of is.phase)
       (verdict_along G (group_of gens) is.stands meaning (sign_of group.phase) r h)
 
-  pub reply_along : {v : Verdict} {s : Status} {text : List ℕ} → IsVerdict meaning (sign_of group.phase) G r v → s ≡ verdict_status v
+  pub reply_along : {v : Verdict} {s : Status} {text : List ℕ} → IsVerdict meaning (sign_of group.phase) G r v
+      → s ≡ verdict_status v
       → text ≡ verdict_text v → IsCheckReply (group_of gens) r s text
   reply_along {v} h e f = record { verdict = v; is_verdict = verdict_there h; is_status = e; is_text = f }
 
@@ -51,14 +53,16 @@ module _ (group : Group) (gens : List Op) (is : IsGroupOf group gens) (r : Repor
   order_there : (n : ℕ) → IsOrder G r.wave n → IsOrder (group_of gens) r.wave n
   order_there = order_along G (group_of gens) is.stands r.wave
 
-  pub verdict_within : {v : Verdict} → IsVerdict meaning (sign_of group.phase) G r v → ((n : ℕ) → IsOrder G r.wave n → n ≤ order_limit)
+  pub verdict_within : {v : Verdict} → IsVerdict meaning (sign_of group.phase) G r v
+      → ((n : ℕ) → IsOrder G r.wave n → n ≤ order_limit)
       → AreWithin (check r) (group_of gens)
   verdict_within h within = let o = some_order h in one_within (group_of gens) r.wave o.0 (order_there o.0 o.1) (within o.0 o.1)
 
   pub no_verdict_along : (n : ℕ) → IsOrder G r.wave n → order_limit < n → IsTooLargeAt (check r) (group_of gens) n
   no_verdict_along n o l = first_above (check r) (group_of gens) n (refl, order_there n o) l
 
-pub input_complete : (bytes : List ℕ) (lines : List GenLine) (gens : List Op) (r : ReportContent) → IsInput bytes lines (Some r)
+pub input_complete : (bytes : List ℕ) (lines : List GenLine) (gens : List Op) (r : ReportContent)
+    → IsInput bytes lines (Some r)
     → IsVerdict meaning minus (group_of gens) r Yes → IsCompleteReport minus (group_of gens) r
 input_complete bytes lines gens r i verdict = meant_is_complete minus (group_of gens) r
     (read-limited IsWaveText IsTextOf i.section r i.is_section.1).some_row verdict

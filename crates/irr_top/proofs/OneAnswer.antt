@@ -1,14 +1,14 @@
 -- Words and bytes ask for one status: so does each stage.
 --   asked_once       the status
 use Rattle.std.proofs.Common.{◌≡◌, ◌≢◌, refl, sym, ◌∙◌, ap, ap₂, subst, ℕ, ◌+◌, List, Option, Some, None, length}
-use Rattle.irr_space.specs.Operation.{Operation, WaveVector}
+use Rattle.irr_space.specs.Operation.{Operation}
 use Rattle.irr_space.specs.SpaceGroup.{Generated}
 use Rattle.irr_space.specs.Reciprocal.Sign.{minus}
 use Rattle.irr_text.specs.ReportText.{ReportContent}
 use Rattle.irr_seitz.specs.declared.op.Op.{Op}
 use Rattle.irr_kvec.specs.WaveMeaning.{wave_vector}
 use Rattle.irr_input.specs.Command.{AreOneCommand}
-use Rattle.irr_input.specs.InputLines.{IsFaultyLine, IsInput, IsLimitLine, HasLines}
+use Rattle.irr_input.specs.InputLines.{IsInput, HasLines}
 use Rattle.irr_input.specs.declared.input.GenLine.{GenLine}
 use Rattle.irr_input.specs.declared.input.Reason.TheVariants.{Missing}
 use Rattle.irr_input.proofs.OneInput.{fault_or_limit, faulty_line_unique, input_or_fault, input_or_limit, input_unique, limit_line_unique}
@@ -43,12 +43,14 @@ use Rattle.irr_top.proofs.SameGenerators.{AreSame, same_operations, operations_s
 
 -- of a group
 
-reply_once : (q : Question) (G : Operation → Type 0) (s t : Status) (x y : List ℕ) → IsReply q G s x → IsReply q G t y → s ≡ t
+reply_once : (q : Question) (G : Operation → Type 0) (s t : Status) (x y : List ℕ) → IsReply q G s x → IsReply q G t y
+    → s ≡ t
 reply_once (star k) G s t x y a b = a.0 ∙ sym b.0
 reply_once (small k) G s t x y a b = a.0 ∙ sym b.0
 reply_once (check r) G s t x y a b = a.is_status ∙ ap verdict_status (one_verdict meaning minus G r a.is_verdict b.is_verdict) ∙ sym b.is_status
 
-group_once : (q : Question) (G : Operation → Type 0) {s t : Status} {x y : List ℕ} → AsksOfGroup q G s x → AsksOfGroup q G t y → s ≡ t
+group_once : (q : Question) (G : Operation → Type 0) {s t : Status} {x y : List ℕ} → AsksOfGroup q G s x
+    → AsksOfGroup q G t y → s ≡ t
 group_once q G (order_too_large {n = m} a) (order_too_large {n = n} b) = ap (λ i. TooLarge (Order i)) (large_once q G m n a b)
 group_once q G (order_too_large {n = m} a) (reply w b) = absurd (within_or_above m order_limit (w a.place m a.is_order) a.above)
 group_once q G (reply w a) (order_too_large {n = n} b) = absurd (within_or_above n order_limit (w b.place n b.is_order) b.above)
@@ -59,7 +61,8 @@ group_once q G {s = s} {t = t} {x = x} {y = y} (reply w a) (reply v b) = reply_o
 passes : (e : CloseError) {kind : Kind} → passed_limit e ≡ Some kind → e ≢ no_memory
 passes e {kind} p f = let n : None ≡ Some kind = subst (λ x. passed_limit x ≡ Some kind) f p in cc
 
-refusal_unique : (gens : List Op) (d e : CloseError) → d ≢ no_memory → e ≢ no_memory → IsRefusal gens d → IsRefusal gens e → d ≡ e
+refusal_unique : (gens : List Op) (d e : CloseError) → d ≢ no_memory → e ≢ no_memory → IsRefusal gens d
+    → IsRefusal gens e → d ≡ e
 refusal_unique gens no_memory e m n p q = absurd (m refl)
 refusal_unique gens many_rotations many_rotations m n p q = refl
 refusal_unique gens many_rotations large_denominator m n p q = absurd (p q.0)
@@ -80,20 +83,23 @@ refused_or_accepted gens large_denominator n r a = r.1 a.denominator
 refused_or_accepted gens many_centrings n r a = r.2 a.centrings
 refused_or_accepted gens no_memory n r a = n refl
 
-limit_once : (gens : List Op) (d e : CloseError) {k l : Kind} → passed_limit d ≡ Some k → passed_limit e ≡ Some l → IsRefusal gens d
+limit_once : (gens : List Op) (d e : CloseError) {k l : Kind} → passed_limit d ≡ Some k → passed_limit e ≡ Some l
+    → IsRefusal gens d
     → IsRefusal gens e → k ≡ l
 limit_once gens d e {k} {l} p q r u =
     let same : d ≡ e = refusal_unique gens d e (passes d p) (passes e q) r u in
     let some : Some k ≡ Some l = sym p ∙ ap passed_limit same ∙ q in
     cc
 
-generators_once : (q : Question) (gens : List Op) {s t : Status} {x y : List ℕ} → AsksOfGenerators q gens s x → AsksOfGenerators q gens t y → s ≡ t
+generators_once : (q : Question) (gens : List Op) {s t : Status} {x y : List ℕ} → AsksOfGenerators q gens s x
+    → AsksOfGenerators q gens t y → s ≡ t
 generators_once q gens (refused d p r) (refused e o u) = ap TooLarge (limit_once gens d e p o r u)
 generators_once q gens (refused d p r) (group a g) = absurd (refused_or_accepted gens d (passes d p) r a)
 generators_once q gens (group a g) (refused d p r) = absurd (refused_or_accepted gens d (passes d p) r a)
 generators_once q gens (group a g) (group b h) = group_once q (group_of gens) g h
 
-generators_along : (q : Question) {gens hens : List Op} {s : Status} {x : List ℕ} → AreSame gens hens → AsksOfGenerators q gens s x
+generators_along : (q : Question) {gens hens : List Op} {s : Status} {x : List ℕ} → AreSame gens hens
+    → AsksOfGenerators q gens s x
     → AsksOfGenerators q hens s x
 generators_along q same (refused e p r) = refused e p (refusal_along e same r)
 generators_along q {s = s} {x = x} same (group a g) = group (accepted_along same a)
@@ -134,8 +140,10 @@ module _ (r q : Request) (c d : Option ReportContent) (gens hens : List Op) (m n
 
 -- of bytes
 module _ (r q : Request) (one : AreOneCommand (command_of r) (command_of q)) (bytes : List ℕ) where
-  inputs_once : (ks ls : List GenLine) (c d : Option ReportContent) (m n : ℕ) → IsInput bytes ks c → IsInput bytes ls d → HasLines bytes m
-      → HasLines bytes n → {s t : Status} {x y : List ℕ} → AsksOfInput r (operations_of ks) c m s x → AsksOfInput q (operations_of ls) d n t y → s ≡ t
+  inputs_once : (ks ls : List GenLine) (c d : Option ReportContent) (m n : ℕ) → IsInput bytes ks c
+      → IsInput bytes ls d → HasLines bytes m
+      → HasLines bytes n → {s t : Status} {x y : List ℕ} → AsksOfInput r (operations_of ks) c m s x
+      → AsksOfInput q (operations_of ls) d n t y → s ≡ t
   inputs_once ks ls c d m n i j h g a b =
       let both = input_unique bytes ks ls c d i j in
       input_once r q c d (operations_of ks) (operations_of ls) m n (question_once r q c d one both.1) (same_operations ks ls both.0)
@@ -159,7 +167,8 @@ module _ (r q : Request) (one : AreOneCommand (command_of r) (command_of q)) (by
   bytes_once (lines l a) (too_long h) = absurd (within_or_above (length bytes) input_limit l h)
   bytes_once (lines l a) (lines h b) = lines_once a b
 
-pub asked_once : (words : List (List ℕ)) (bytes : List ℕ) {s t : Status} {x y : List ℕ} → Asks words bytes s x → Asks words bytes t y → s ≡ t
+pub asked_once : (words : List (List ℕ)) (bytes : List ℕ) {s t : Status} {x y : List ℕ} → Asks words bytes s x
+    → Asks words bytes t y → s ≡ t
 asked_once words bytes (faulty_word {n = m} p) (faulty_word {n = n} q) = ap Usage (faulty_unique IsCommand words m n p q)
 asked_once words bytes (faulty_word p) (request r a b) = absurd (p.no_command (r, a))
 asked_once words bytes (request r a b) (faulty_word p) = absurd (p.no_command (r, a))

@@ -3,7 +3,7 @@
 --   large_once        so the first one above the limit is one number
 --   one_within        where one order is needed, at a wave vector, and it is within the limit, all are
 --   first_above       the first order, where it is above the limit
-use Rattle.std.proofs.Common.{◌≡◌, refl, sym, subst, ℕ, ◌<◌, ◌≤◌, inl, inr, arith}
+use Rattle.std.proofs.Common.{◌≡◌, subst, ℕ, ◌<◌, ◌≤◌, inl, inr, arith}
 use Rattle.std.proofs.lemmas.Bool.{cases_order}
 use Rattle.irr_space.specs.Operation.{Operation, WaveVector}
 use Rattle.irr_space.specs.Reciprocal.{IsOrder}
@@ -12,7 +12,8 @@ use Rattle.irr_top.specs.Question.{Question, IsNeededOrder}
 use Rattle.irr_top.specs.Question.Question.{star, small, check}
 use Rattle.irr_top.specs.Answer.{IsTooLargeAt, order_limit}
 
-pub needed_once : (q : Question) (G : Operation → Type 0) (i m n : ℕ) → IsNeededOrder q G i m → IsNeededOrder q G i n → m ≡ n
+pub needed_once : (q : Question) (G : Operation → Type 0) (i m n : ℕ) → IsNeededOrder q G i m → IsNeededOrder q G i n
+    → m ≡ n
 needed_once (star k) G i m n p o = order_unique G k m n p.1 o.1
 needed_once (small k) G i m n p o = order_unique G k m n p.1 o.1
 needed_once (check r) G i m n p o = order_unique G r.wave m n p.1 o.1
@@ -32,5 +33,6 @@ pub one_within : (G : Operation → Type 0) (k : WaveVector) (m : ℕ) → IsOrd
     → (i n : ℕ) → (i ≡ 0) × IsOrder G k n → n ≤ order_limit
 one_within G k m o l i n p = subst (λ x. x ≤ order_limit) (order_unique G k m n o p.1) l
 
-pub first_above : (q : Question) (G : Operation → Type 0) (n : ℕ) → IsNeededOrder q G 0 n → order_limit < n → IsTooLargeAt q G n
+pub first_above : (q : Question) (G : Operation → Type 0) (n : ℕ) → IsNeededOrder q G 0 n → order_limit < n
+    → IsTooLargeAt q G n
 first_above q G n o l = record { place = 0; is_order = o; above = l; first = λ i m lt. absurd (omega (arith, lt)) }

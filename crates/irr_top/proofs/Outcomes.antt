@@ -3,7 +3,7 @@
 --   serves_more          what serves one request serves each that asks for the same
 --   outcome_more         so do outcomes
 --   owed                 what is owed is answered, unless a stream failed or memory was wanting
-use Rattle.std.proofs.Common.{◌≡◌, sym, ◌∙◌, subst, refl, ℕ, ◌⊎◌, inl, inr, Option, Some, List}
+use Rattle.std.proofs.Common.{◌≡◌, subst, ℕ, ◌⊎◌, inl, inr, Option, Some, List}
 use Rattle.irr_io.specs.Views.{SourceView, SinkView}
 use Rattle.irr_top.specs.Asked.{Asks}
 use Rattle.irr_top.specs.Asked.Asks.{faulty_word}
@@ -23,12 +23,14 @@ ended_other u (cut_off r g w) a b c e = b e
 ended_other u (no_memory f) a b c e = c e
 
 pub serves_more : {asks others : Status → List ℕ → Type 0} {before after : SinkView} {t : Status}
-    → ((s : Status) (text : List ℕ) → asks s text → others s text) → Serves asks before after t → Serves others before after t
+    → ((s : Status) (text : List ℕ) → asks s text → others s text) → Serves asks before after t
+    → Serves others before after t
 serves_more f (serves {s = s} {text = text} a e) = serves (f s text a) e
 serves_more f (without_memory e) = without_memory e
 
 pub outcome_more : {asks others : List ℕ → Status → List ℕ → Type 0} {source read : SourceView} {sink written : SinkView} {t : Status}
-    → ((bytes : List ℕ) (s : Status) (text : List ℕ) → asks bytes s text → others bytes s text) → OutcomeOf asks source read sink written t
+    → ((bytes : List ℕ) (s : Status) (text : List ℕ) → asks bytes s text → others bytes s text)
+    → OutcomeOf asks source read sink written t
     → OutcomeOf others source read sink written t
 outcome_more f (answered bytes all s end) = answered bytes all (serves_more (f bytes) s) end
 outcome_more f (read_fault r h) = read_fault r h
@@ -37,13 +39,15 @@ module _ (words : List (List ℕ)) where
   same_bytes : (left : Option (List ℕ)) (bytes all : List ℕ) → left ≡ Some bytes → IsAllOf left all → all ≡ bytes
   same_bytes left bytes all e h = subst (λ l. IsAllOf l all) e h
 
-  same_status : {source : SourceView} {s t : Status} {text : List ℕ} (all : List ℕ) → IsAllOf source.left all → Asks words all t text
+  same_status : {source : SourceView} {s t : Status} {text : List ℕ} (all : List ℕ) → IsAllOf source.left all
+      → Asks words all t text
       → IsOwed words source s → t ≡ s
   same_status all h a (by_words p) = asked_once words all a (faulty_word p)
   same_status {source} {s} {t} {text} all h a (by_bytes bytes other e b) = asked_once words bytes
       (subst (λ l. Asks words l t text) (same_bytes source.left bytes all e h) a) b
 
-  ended_owed : {source : SourceView} {sink written : SinkView} {s u t : Status} {text : List ℕ} (all : List ℕ) → IsAllOf source.left all
+  ended_owed : {source : SourceView} {sink written : SinkView} {s u t : Status} {text : List ℕ} (all : List ℕ)
+      → IsAllOf source.left all
       → Asks words all u text → Ended u text sink written t → IsOwed words source s → (t ≡ s) ⊎ IsFailure t
   ended_owed all h a (whole g w) o = inl (same_status all h a o)
   ended_owed all h a (cut_off r g w) o = inr tt
@@ -54,11 +58,13 @@ module _ (words : List (List ℕ)) where
   served_owed all h (serves a e) o = ended_owed all h a e o
   served_owed all h (without_memory e) o = inr tt
 
-  outcome_owed : {source read : SourceView} {sink written : SinkView} {s t : Status} → OutcomeOf (Asks words) source read sink written t
+  outcome_owed : {source read : SourceView} {sink written : SinkView} {s t : Status}
+      → OutcomeOf (Asks words) source read sink written t
       → IsOwed words source s → (t ≡ s) ⊎ IsFailure t
   outcome_owed (answered all h s end) o = served_owed all h s o
   outcome_owed (read_fault r h) o = inr tt
 
-  pub owed : {source read : SourceView} {sink written : SinkView} {s t : Status} → Outcome words source read sink written t
+  pub owed : {source read : SourceView} {sink written : SinkView} {s t : Status}
+      → Outcome words source read sink written t
       → IsOwed words source s → (t ≡ s) ⊎ IsFailure t
   owed o = outcome_owed o.ends

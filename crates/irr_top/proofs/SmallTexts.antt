@@ -54,7 +54,8 @@ module _ (group : Group) (gens : List Op) (is : IsGroupOf group gens) (k w : Wav
     is_order : IsOrder (group_of gens) k T.order
     is_order = order_there T.order (table.table some_operation).is_order
 
-    pub small_text_of : (text : List ℕ) → ((d : Op) → IsListText w (listed_operations group h xs d) T text) → IsModestText gens k text
+    pub small_text_of : (text : List ℕ) → ((d : Op) → IsListText w (listed_operations group h xs d) T text)
+        → IsModestText gens k text
     small_text_of text all = let t = all some_operation in record {
       order = T.order;
       is_order = is_order;

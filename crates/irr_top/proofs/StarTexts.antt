@@ -146,8 +146,10 @@ module _ (group : Group) (gens : List Op) (is : IsGroupOf group gens) (k : WaveV
   order_of_star : (n : ℕ) → IsOrder (stands_for group) k n → IsOrder (group_of gens) k n
   order_of_star = order_along (stands_for group) (group_of gens) is.stands k
 
-  pub star_reply_of : (xs : List ℕ) {h : ℕ} (T : PhaseTable h) → IsLittleTable group k xs T → T.order ≤ order_limit → (text : List ℕ)
-      → IsStarText (sign_of group.phase) (stands_for group) k text → AreWithin (star k) (group_of gens) × IsStarReply (group_of gens) k Done text
+  pub star_reply_of : (xs : List ℕ) {h : ℕ} (T : PhaseTable h) → IsLittleTable group k xs T → T.order ≤ order_limit
+      → (text : List ℕ)
+      → IsStarText (sign_of group.phase) (stands_for group) k text
+      → AreWithin (star k) (group_of gens) × IsStarReply (group_of gens) k Done text
   star_reply_of xs T table within text at = (
     one_within (group_of gens) k T.order (order_of_star T.order (table.table (other_operation group)).is_order) within,
     (
@@ -165,7 +167,8 @@ module _ (group : Group) (gens : List Op) (is : IsGroupOf group gens) (k : WaveV
   no_star_of n o l = first_above (star k) (group_of gens) n (refl, order_of_star n o) l
 
 -- the operation of an arm
-pub arm_inside : (ops : List Op) (arms : List Arm) → AreInList ops arms → (i : ℕ) (x : Arm) → i < length arms → x ≡ get_or arms i x
+pub arm_inside : (ops : List Op) (arms : List Arm) → AreInList ops arms → (i : ℕ) (x : Arm) → i < length arms
+    → x ≡ get_or arms i x
     → x.op < length ops
 arm_inside ops arms all i x l is = subst (λ (y : Arm). y.op < length ops) (sym is) (all i x l)
 
@@ -173,11 +176,13 @@ pub listed_item : (ops : List Op) (n : ℕ) (g d : Op) → n < length ops → g 
 listed_item ops n g d l is = is ∙ get_or_default ops n g d l
 
 -- the parts of the lines
-pub head-parts : (w n a : List ℕ) → codes "star 1\nwave " ++ (w ++ (codes "\norder " ++ (n ++ (codes "\narms " ++ (a ++ codes "\n")))))
+pub head-parts : (w n a : List ℕ)
+    → codes "star 1\nwave " ++ (w ++ (codes "\norder " ++ (n ++ (codes "\narms " ++ (a ++ codes "\n")))))
     ≡ line (codes "star 1") ++ line (codes "wave" ++ next_word w) ++ line (codes "order" ++ next_word n) ++ line (codes "arms" ++ next_word a)
 head-parts w n a = head_regroup (codes "star 1\n") (codes "wave ") (codes "order ") (codes "arms ") (10 ∷ []) w n a
 
-factor-parts : (before k t : List ℕ) → ((before ++ (codes "factor " ++ k)) ++ t) ++ 10 ∷ [] ≡ before ++ line (codes "factor" ++ next_word k ++ t)
+factor-parts : (before k t : List ℕ)
+    → ((before ++ (codes "factor " ++ k)) ++ t) ++ 10 ∷ [] ≡ before ++ line (codes "factor" ++ next_word k ++ t)
 factor-parts before k t = simp append_assoc
 
 pub row-parts : (before : List ℕ) {h : ℕ} (T : PhaseTable h) (p : Fin h) (i : ℕ) → to_nat p ≡ i

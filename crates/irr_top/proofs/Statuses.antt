@@ -34,16 +34,19 @@ verdict_no_failure : (v : Verdict) → IsFailure (verdict_status v) → ⊥
 verdict_no_failure Yes h = h
 verdict_no_failure (No clause rep i j) h = h
 
-reply_no_failure : (q : Question) (G : Operation → Type 0) (s : Status) (text : List ℕ) → IsReply q G s text → IsFailure s → ⊥
+reply_no_failure : (q : Question) (G : Operation → Type 0) (s : Status) (text : List ℕ) → IsReply q G s text
+    → IsFailure s → ⊥
 reply_no_failure (star k) G s text a h = subst IsFailure a.0 h
 reply_no_failure (small k) G s text a h = subst IsFailure a.0 h
 reply_no_failure (check r) G s text a h = verdict_no_failure a.verdict (subst IsFailure a.is_status h)
 
-group_no_failure : (q : Question) (G : Operation → Type 0) {s : Status} {text : List ℕ} → AsksOfGroup q G s text → IsFailure s → ⊥
+group_no_failure : (q : Question) (G : Operation → Type 0) {s : Status} {text : List ℕ} → AsksOfGroup q G s text
+    → IsFailure s → ⊥
 group_no_failure q G (order_too_large a) h = h
 group_no_failure q G {s = s} {text = text} (reply w a) h = reply_no_failure q G s text a h
 
-generators_no_failure : {q : Question} {gens : List Op} {s : Status} {text : List ℕ} → AsksOfGenerators q gens s text → IsFailure s → ⊥
+generators_no_failure : {q : Question} {gens : List Op} {s : Status} {text : List ℕ} → AsksOfGenerators q gens s text
+    → IsFailure s → ⊥
 generators_no_failure (refused e p r) h = h
 generators_no_failure (group a g) h = group_no_failure _ _ g h
 
@@ -52,16 +55,19 @@ input_no_failure : {r : Request} {gens : List Op} {c : Option ReportContent} {n 
 input_no_failure (missing e) h = h
 input_no_failure (question q e g) h = generators_no_failure g h
 
-lines_no_failure : {r : Request} {bytes : List ℕ} {s : Status} {text : List ℕ} → AsksOfLines r bytes s text → IsFailure s → ⊥
+lines_no_failure : {r : Request} {bytes : List ℕ} {s : Status} {text : List ℕ} → AsksOfLines r bytes s text
+    → IsFailure s → ⊥
 lines_no_failure (faulty_line f) h = h
 lines_no_failure (limited_line f) h = h
 lines_no_failure (input ls c n i l a) h = input_no_failure a h
 
-bytes_no_failure : {r : Request} {bytes : List ℕ} {s : Status} {text : List ℕ} → AsksOfBytes r bytes s text → IsFailure s → ⊥
+bytes_no_failure : {r : Request} {bytes : List ℕ} {s : Status} {text : List ℕ} → AsksOfBytes r bytes s text
+    → IsFailure s → ⊥
 bytes_no_failure (too_long l) h = h
 bytes_no_failure (lines l a) h = lines_no_failure a h
 
-pub asked_status : {words : List (List ℕ)} {bytes : List ℕ} {s : Status} {text : List ℕ} → Asks words bytes s text → IsFailure s → ⊥
+pub asked_status : {words : List (List ℕ)} {bytes : List ℕ} {s : Status} {text : List ℕ} → Asks words bytes s text
+    → IsFailure s → ⊥
 asked_status (faulty_word f) h = h
 asked_status (request r is a) h = bytes_no_failure a h
 
@@ -88,10 +94,12 @@ module _ (words : List (List ℕ)) (source read : SourceView) (sink written : Si
   ends_answered (answered bytes all s end) n = serves_answered bytes all s n
   ends_answered (read_fault r h) n = absurd (n tt)
 
-  pub outcome_answered : {t : Status} → Outcome words source read sink written t → (IsFailure t → ⊥) → IsAnswered words source sink written t
+  pub outcome_answered : {t : Status} → Outcome words source read sink written t → (IsFailure t → ⊥)
+      → IsAnswered words source sink written t
   outcome_answered o n = ends_answered o.ends n
 
-  ended_read : {s t : Status} {text : List ℕ} (bytes : List ℕ) → Asks words bytes s text → Ended s text sink written t → t ≡ ReadFault → ⊥
+  ended_read : {s t : Status} {text : List ℕ} (bytes : List ℕ) → Asks words bytes s text → Ended s text sink written t
+      → t ≡ ReadFault → ⊥
   ended_read bytes a (whole g w) e = not_asked a e tt
   ended_read bytes a (cut_off r g w) e = let k : WriteFault ≡ ReadFault = e in cc
   ended_read bytes a (no_memory h) e = let k : Memory ≡ ReadFault = e in cc
@@ -115,7 +123,8 @@ module _ (words : List (List ℕ)) (source read : SourceView) (sink written : Si
       (r, record { bytes = bytes; is_all = all; status = s; text = text; asks = a; gained = g; counted = w })
   ended_write bytes all a (no_memory h) e = absurd (let k : Memory ≡ WriteFault = e in cc)
 
-  serves_write : {t : Status} (bytes : List ℕ) → IsAllOf source.left bytes → Serves (Asks words bytes) sink written t → t ≡ WriteFault
+  serves_write : {t : Status} (bytes : List ℕ) → IsAllOf source.left bytes → Serves (Asks words bytes) sink written t
+      → t ≡ WriteFault
       → WriteFailed sink written × IsCutOff words source sink written
   serves_write bytes all (serves a e) f = ended_write bytes all a e f
   serves_write bytes all (without_memory h) f = absurd (let k : Memory ≡ WriteFault = f in cc)
@@ -124,16 +133,19 @@ module _ (words : List (List ℕ)) (source read : SourceView) (sink written : Si
   ends_write (answered bytes all s end) e = serves_write bytes all s e
   ends_write (read_fault r h) e = absurd (let k : ReadFault ≡ WriteFault = e in cc)
 
-  pub outcome_write_fault : Outcome words source read sink written WriteFault → WriteFailed sink written × IsCutOff words source sink written
+  pub outcome_write_fault : Outcome words source read sink written WriteFault
+      → WriteFailed sink written × IsCutOff words source sink written
   outcome_write_fault o = ends_write o.ends refl
 
-  ended_memory : {s t : Status} {text : List ℕ} (bytes : List ℕ) → Asks words bytes s text → Ended s text sink written t → t ≡ Memory
+  ended_memory : {s t : Status} {text : List ℕ} (bytes : List ℕ) → Asks words bytes s text
+      → Ended s text sink written t → t ≡ Memory
       → written.held ≡ sink.held
   ended_memory bytes a (whole g w) e = absurd (not_asked a e tt)
   ended_memory bytes a (cut_off r g w) e = absurd (let k : WriteFault ≡ Memory = e in cc)
   ended_memory bytes a (no_memory h) e = h
 
-  serves_memory : {t : Status} (bytes : List ℕ) → Serves (Asks words bytes) sink written t → t ≡ Memory → written.held ≡ sink.held
+  serves_memory : {t : Status} (bytes : List ℕ) → Serves (Asks words bytes) sink written t → t ≡ Memory
+      → written.held ≡ sink.held
   serves_memory bytes (serves a e) f = ended_memory bytes a e f
   serves_memory bytes (without_memory h) f = h
 
@@ -153,19 +165,23 @@ module _ (words : List (List ℕ)) (source read : SourceView) (sink written : Si
 
   -- faulty words
   module _ (n : ℕ) (f : IsFaultyWord words n) where
-    ended_usage : {s t : Status} {text : List ℕ} (bytes : List ℕ) → Asks words bytes s text → Ended s text sink written t
+    ended_usage : {s t : Status} {text : List ℕ} (bytes : List ℕ) → Asks words bytes s text
+        → Ended s text sink written t
         → (t ≡ Usage n) ⊎ ((t ≡ Memory) ⊎ (t ≡ WriteFault))
     ended_usage bytes a (whole g w) = inl (asked_once words bytes a (faulty_word f))
     ended_usage bytes a (cut_off r g w) = inr (inr refl)
     ended_usage bytes a (no_memory h) = inr (inl refl)
 
-    serves_usage : {t : Status} (bytes : List ℕ) → Serves (Asks words bytes) sink written t → (t ≡ Usage n) ⊎ ((t ≡ Memory) ⊎ (t ≡ WriteFault))
+    serves_usage : {t : Status} (bytes : List ℕ) → Serves (Asks words bytes) sink written t
+        → (t ≡ Usage n) ⊎ ((t ≡ Memory) ⊎ (t ≡ WriteFault))
     serves_usage bytes (serves a e) = ended_usage bytes a e
     serves_usage bytes (without_memory h) = inr (inl refl)
 
-    ends_usage : {t : Status} → Ends t → (t ≡ ReadFault → IsCommand words) → (t ≡ Usage n) ⊎ ((t ≡ Memory) ⊎ (t ≡ WriteFault))
+    ends_usage : {t : Status} → Ends t → (t ≡ ReadFault → IsCommand words)
+        → (t ≡ Usage n) ⊎ ((t ≡ Memory) ⊎ (t ≡ WriteFault))
     ends_usage (answered bytes all s end) c = serves_usage bytes s
     ends_usage (read_fault r h) c = absurd (f.no_command (c refl))
 
-    pub outcome_usage : {t : Status} → Outcome words source read sink written t → (t ≡ Usage n) ⊎ ((t ≡ Memory) ⊎ (t ≡ WriteFault))
+    pub outcome_usage : {t : Status} → Outcome words source read sink written t
+        → (t ≡ Usage n) ⊎ ((t ≡ Memory) ⊎ (t ≡ WriteFault))
     outcome_usage o = ends_usage o.ends o.read_for_a_command

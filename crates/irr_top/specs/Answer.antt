@@ -40,7 +40,8 @@ abbrev pub AreWithin : Question → (Operation → Type 0) → Type 0
 AreWithin q G = (i n : ℕ) → IsNeededOrder q G i n → n ≤ order_limit
 
 pub data AsksOfGroup (q : Question) (G : Operation → Type 0) : Status → List ℕ → Type 0 where
-  order_too_large : {n : ℕ} → IsTooLargeAt q G n → AsksOfGroup q G (TooLarge (Order n)) (refusal_text (TooLarge (Order n)))
+  order_too_large : {n : ℕ} → IsTooLargeAt q G n
+      → AsksOfGroup q G (TooLarge (Order n)) (refusal_text (TooLarge (Order n)))
   reply : {s : Status} {text : List ℕ} → AreWithin q G → IsReply q G s text → AsksOfGroup q G s text
 
 abbrev pub IsReplied : Question → (Operation → Type 0) → Reply → Type 0

@@ -1,14 +1,15 @@
--- What words and the bytes of an input ask for: a status, and the text that is to be written with it. The stages follow one another;
--- at each of them what is wrong first decides.
+-- What words and the bytes of an input ask for: a status s, and the text that is to be written with it. The stages
+-- follow one another, and at each of them what is wrong first decides.
 --   input_limit                        the limit on the bytes of an input
 --   Asks words bytes s text            the first faulty word; or what a request asks
---   AsksOfBytes r bytes s text         too many bytes; or what it asks of their lines
---   AsksOfLines r bytes s text         the first faulty line, or the first that passes a limit; or what it asks of an input
---   AsksOfInput r gens report n s text    the section that the command needs is missing, as is told at the line after the last of n;
---                                      or what its question asks of the generators
---   AsksOfGenerators q gens s text     the first limit that the generators pass; or what the question asks of the group that they
---                                      generate
---   passed_limit e                     the limit that is passed where the generators are refused; none at want of memory
+--   AsksOfBytes r bytes s text         too many bytes; or what the request asks of their lines
+--   AsksOfLines r bytes s text         the first faulty line, or the first that passes a limit; or what it asks of an
+--                                      input
+--   AsksOfInput r gens report n s text     the section that the command needs is missing, as is told at the line after
+--                                      the last of n lines; or what its question asks of the generators
+--   AsksOfGenerators q gens s text     the first limit that the generators pass; or what the question asks of the group
+--                                      that they generate (AsksOfGroup in Answer.antt)
+--   passed_limit e                     the limit that refused generators pass; none at want of memory
 --   operations_of lines                the operations on the lines of an input
 use Rattle.std.specs.Prelude.{ℕ, ◌≡◌, ◌+◌, ◌<◌, ◌≤◌, Option, None, Some, List, length, map}
 use Rattle.irr_text.specs.ReportText.{ReportContent}
@@ -46,24 +47,31 @@ operations_of lines = map (λ (g : GenLine). g.op) lines
 pub data AsksOfGenerators (q : Question) (gens : List Op) : Status → List ℕ → Type 0 where
   refused : {kind : Kind} (e : CloseError) → passed_limit e ≡ Some kind → IsRefusal gens e
       → AsksOfGenerators q gens (TooLarge kind) (refusal_text (TooLarge kind))
-  group : {s : Status} {text : List ℕ} → IsAccepted gens → AsksOfGroup q (group_of gens) s text → AsksOfGenerators q gens s text
+  group : {s : Status} {text : List ℕ} → IsAccepted gens → AsksOfGroup q (group_of gens) s text
+      → AsksOfGenerators q gens s text
 
-pub data AsksOfInput (r : Request) (gens : List Op) (report : Option ReportContent) (n : ℕ) : Status → List ℕ → Type 0 where
-  missing : question_of r report ≡ None → AsksOfInput r gens report n (BadInput (n + 1) Missing) (refusal_text (BadInput (n + 1) Missing))
-  question : {s : Status} {text : List ℕ} (q : Question) → question_of r report ≡ Some q → AsksOfGenerators q gens s text
-      → AsksOfInput r gens report n s text
+pub data AsksOfInput (r : Request) (gens : List Op) (report : Option ReportContent) (n : ℕ)
+    : Status → List ℕ → Type 0 where
+  missing : question_of r report ≡ None
+      → AsksOfInput r gens report n (BadInput (n + 1) Missing) (refusal_text (BadInput (n + 1) Missing))
+  question : {s : Status} {text : List ℕ} (q : Question) → question_of r report ≡ Some q
+      → AsksOfGenerators q gens s text → AsksOfInput r gens report n s text
 
 pub data AsksOfLines (r : Request) (bytes : List ℕ) : Status → List ℕ → Type 0 where
   faulty_line : {n : ℕ} {reason : Reason} → IsFaultyLine bytes n reason
       → AsksOfLines r bytes (BadInput n reason) (refusal_text (BadInput n reason))
-  limited_line : {n : ℕ} → IsLimitLine bytes n → AsksOfLines r bytes (TooLarge (Report n)) (refusal_text (TooLarge (Report n)))
-  input : {s : Status} {text : List ℕ} (lines : List GenLine) (report : Option ReportContent) (n : ℕ) → IsInput bytes lines report
-      → HasLines bytes n → AsksOfInput r (operations_of lines) report n s text → AsksOfLines r bytes s text
+  limited_line : {n : ℕ} → IsLimitLine bytes n
+      → AsksOfLines r bytes (TooLarge (Report n)) (refusal_text (TooLarge (Report n)))
+  input : {s : Status} {text : List ℕ} (lines : List GenLine) (report : Option ReportContent) (n : ℕ)
+      → IsInput bytes lines report → HasLines bytes n → AsksOfInput r (operations_of lines) report n s text
+      → AsksOfLines r bytes s text
 
 pub data AsksOfBytes (r : Request) (bytes : List ℕ) : Status → List ℕ → Type 0 where
   too_long : input_limit < length bytes → AsksOfBytes r bytes (TooLarge Bytes) (refusal_text (TooLarge Bytes))
-  lines : {s : Status} {text : List ℕ} → length bytes ≤ input_limit → AsksOfLines r bytes s text → AsksOfBytes r bytes s text
+  lines : {s : Status} {text : List ℕ} → length bytes ≤ input_limit → AsksOfLines r bytes s text
+      → AsksOfBytes r bytes s text
 
 pub data Asks (words : List (List ℕ)) (bytes : List ℕ) : Status → List ℕ → Type 0 where
   faulty_word : {n : ℕ} → IsFaultyWord words n → Asks words bytes (Usage n) (refusal_text (Usage n))
-  request : {s : Status} {text : List ℕ} (r : Request) → IsRequested words r → AsksOfBytes r bytes s text → Asks words bytes s text
+  request : {s : Status} {text : List ℕ} (r : Request) → IsRequested words r → AsksOfBytes r bytes s text
+      → Asks words bytes s text

@@ -1,7 +1,8 @@
 -- Texts of reports of small representations, as they are made from lists.
---   IsListText wave ops T text     the text is that of a report of a complete list on T in canonical order, far within the limits of reports
---   IsModestText gens k text       the order of k is within the limit, and the text is that of the report at k of the group of the generators,
---                                  which is far within the limits of reports
+--   IsListText wave ops T text   the text is that of a report of a complete list on T in canonical order, far within the
+--                                limits of reports
+--   IsModestText gens k text     the order of k is within the limit, and the text is that of the report at k of the
+--                                group of the generators, which is far within the limits of reports
 use Rattle.std.specs.Prelude.{ℕ, ◌≡◌, ◌≤◌, List}
 use Rattle.irr_algebra.specs.Fin.{Fin}
 use Rattle.irr_theory.specs.Representations.{Representations}
@@ -16,7 +17,8 @@ use Rattle.irr_report.specs.ModestReport.{IsModest}
 use Rattle.irr_top.specs.Answer.{order_limit}
 use Rattle.irr_top.specs.GroupOf.{group_of}
 
-pub record IsListText (wave : WaveVector) {h : ℕ} (ops : Fin h → Operation) (T : PhaseTable h) (text : List ℕ) : Type 0 where
+pub record IsListText (wave : WaveVector) {h : ℕ} (ops : Fin h → Operation) (T : PhaseTable h) (text : List ℕ)
+    : Type 0 where
   pub representations : Representations (phases_at T)
   pub complete : IsCompleteList T representations
   pub in_order : IsInOrder T representations

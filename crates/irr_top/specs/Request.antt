@@ -4,7 +4,8 @@
 --   IsRequested words r    the words are those of the command
 --   IsCommand words        the words are those of a command that is served
 --   BeginsServed words     the first word is that of a command that is served
---   IsFaultyWord words n   the n-th word, counted from 1, is the first that no served command has there, or the first that is missing
+--   IsFaultyWord words n   the n-th word, counted from 1, is the first that no served command has there, or the first
+--                          that is missing
 use Rattle.std.specs.Prelude.{ℕ, ◌≡◌, ◌⊎◌, List, [], ◌∷◌, codes}
 use Rattle.irr_input.specs.Command.{AreWords, IsFaulty}
 use Rattle.irr_input.specs.declared.words.Command.{Command}

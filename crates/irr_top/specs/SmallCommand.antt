@@ -1,7 +1,7 @@
 -- `small`: the small representations at a wave vector.
---   IsSmallText s G k text        the text is that of a report of the small representations of the group G at k, for the sign s of
---                                 the phase
---   IsSmallReply G k status text  the run is done, and the text is that of a report
+--   IsSmallText s G k text    the text is that of a report of the small representations of the group G at k, for the
+--                             sign s of the phase
+--   IsSmallReply G k s text   s is Done, and the text is that of a report, for the sign minus
 use Rattle.std.specs.Prelude.{ℕ, ◌≡◌, List}
 use Rattle.irr_space.specs.Operation.{Operation, WaveVector}
 use Rattle.irr_space.specs.Reciprocal.{Sign}
@@ -16,4 +16,4 @@ pub record IsSmallText (s : Sign) (G : Operation → Type 0) (k : WaveVector) (t
   pub is_text : text ≡ report_text content
 
 abbrev pub IsSmallReply : (Operation → Type 0) → WaveVector → Status → List ℕ → Type 0
-IsSmallReply G k status text = (status ≡ Done) × IsSmallText minus G k text
+IsSmallReply G k s text = (s ≡ Done) × IsSmallText minus G k text

@@ -1,6 +1,6 @@
 -- `star`: the star of a wave vector.
---   IsStarText s G k text        the text is that of the star of k in the group G, for the sign s of the phase
---   IsStarReply G k status text  the run is done, and the text is that of the star
+--   IsStarText s G k text     the text is that of the star of k in the group G, for the sign s of the phase
+--   IsStarReply G k s text    s is Done, and the text is that of the star, for the sign minus
 use Rattle.std.specs.Prelude.{ℕ, ◌≡◌, List}
 use Rattle.irr_space.specs.Operation.{Operation, WaveVector}
 use Rattle.irr_space.specs.Reciprocal.{Sign}
@@ -15,4 +15,4 @@ pub record IsStarText (s : Sign) (G : Operation → Type 0) (k : WaveVector) (te
   pub is_text : text ≡ star_text content
 
 abbrev pub IsStarReply : (Operation → Type 0) → WaveVector → Status → List ℕ → Type 0
-IsStarReply G k status text = (status ≡ Done) × IsStarText minus G k text
+IsStarReply G k s text = (s ≡ Done) × IsStarText minus G k text

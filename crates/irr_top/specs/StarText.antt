@@ -3,7 +3,7 @@
 --   head_text                     the lines before those of the arms
 --   arm_words, arm_text           the line of an arm with its number
 --   factor T i j, factors T i     an entry of the factor system of a table, and the row of an operation
---   listed_content                what a text says of arms, of operations of a group, and of a table on these operations
+--   listed_content                what a text says of arms, of operations of a group, and of a table on them
 use Rattle.std.specs.Prelude.{ℕ, ◌<◌, List, ◌++◌, codes, length, slice_index_or}
 use Rattle.std.specs.List.{All}
 use Rattle.std.specs.Fmt.{decimal}
@@ -29,7 +29,8 @@ head_text wave order count = line (codes "star 1") ++ line (codes "wave" ++ next
     ++ line (codes "order" ++ next_word (decimal order)) ++ line (codes "arms" ++ next_word (decimal count))
 
 abbrev pub arm_words : ℕ → WaveVector → Operation → List ℕ
-arm_words n wave g = line (codes "arm" ++ next_word (decimal n) ++ next_word (wave_text wave) ++ next_word (triplet_text g))
+arm_words n wave g = line (codes "arm" ++ next_word (decimal n) ++ next_word (wave_text wave)
+    ++ next_word (triplet_text g))
 
 abbrev pub arm_text : List Op → Op → ℕ → Arm → List ℕ
 arm_text ops d n arm = arm_words n (wave_vector arm.wave) (operation (slice_index_or ops arm.op d))
@@ -41,7 +42,8 @@ abbrev pub factors : {h : ℕ} → PhaseTable h → Fin h → List ℕ
 factors T i = factor_line T.product T.exponent i
 
 -- past the end of the lists, d and a stand for an operation and for an arm
-abbrev pub listed_content : (group : Group) (arms : List Arm) {h : ℕ} (xs : List ℕ) (T : PhaseTable h) → Op → Arm → StarContent
+abbrev pub listed_content : (group : Group) (arms : List Arm) {h : ℕ} (xs : List ℕ) (T : PhaseTable h) → Op → Arm
+    → StarContent
 listed_content group arms {h} xs T d a = star_content (wave_vector (slice_index_or arms 0 a).wave)
     {a = length arms} (λ i. wave_vector (slice_index_or arms (to_nat i) a).wave)
     (λ i. operation (slice_index_or group.ops.items (slice_index_or arms (to_nat i) a).op d))

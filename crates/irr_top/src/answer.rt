@@ -41,7 +41,8 @@ pub(crate) fn answer<I: Source, O: Sink>(
     sink: &mut O,
 ) -> Status
     requires limits { AreLimited (command_of request.now) }
-    ensures outcome { OutcomeOf (AsksOfBytes request.now) (I.view source.old) (I.view source.new) (O.view sink.old) (O.view sink.new) result }
+    ensures outcome { OutcomeOf (AsksOfBytes request.now)
+        (I.view source.old) (I.view source.new) (O.view sink.old) (O.view sink.new) result }
     ensures reads { CountsAtMost (input_limit + 2) (I.view source.old).reads (I.view source.new).reads }
 {
     match read_all(alloc, source, INPUT_LIMIT) {
@@ -100,7 +101,8 @@ fn answer_input<O: Sink>(
 fn answer_task<O: Sink>(alloc: Global, task: &Task, lines: &[GenLine], sink: &mut O) -> Status
     requires readable { All (λ g. IsReadable (operation g.op)) lines.now }
     requires limits { IsLimited task.now }
-    ensures { Serves (AsksOfGenerators (asked_by task.now) (operations_of lines.now)) (O.view sink.old) (O.view sink.new) result }
+    ensures { Serves (AsksOfGenerators (asked_by task.now) (operations_of lines.now))
+        (O.view sink.old) (O.view sink.new) result }
 {
     match operations(alloc, lines) {
         Ok(gens) => answer_generators(alloc, task, &gens, sink),
@@ -166,8 +168,10 @@ fn answer_group<O: Sink>(alloc: Global, task: &Task, group: &Group, sink: &mut O
 fn reply_of(alloc: Global, task: &Task, group: &Group) -> Result<Reply, NoReply>
     requires group { (gens : List Op) × IsGroupOf group.now gens }
     requires limits { IsLimited task.now }
-    ensures reply { (gens : List Op) → IsGroupOf group.now gens → IfOk result (IsReplied (asked_by task.now) (group_of gens)) }
-    ensures none { (gens : List Op) → IsGroupOf group.now gens → IfErr result (IsNoReply (asked_by task.now) (group_of gens)) }
+    ensures reply { (gens : List Op) → IsGroupOf group.now gens
+        → IfOk result (IsReplied (asked_by task.now) (group_of gens)) }
+    ensures none { (gens : List Op) → IsGroupOf group.now gens
+        → IfErr result (IsNoReply (asked_by task.now) (group_of gens)) }
 {
     match task {
         Task::Star(wave) => star_reply(alloc, group, wave),

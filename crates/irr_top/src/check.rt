@@ -26,8 +26,10 @@ pub(crate) fn check_reply(
 ) -> Result<Reply, NoReply>
     requires group { (gens : List Op) × IsGroupOf group.now gens }
     requires limits { IsWithinLimits report.now }
-    ensures reply { (gens : List Op) → IsGroupOf group.now gens → IfOk result (IsReplied (asked (content_of report.now)) (group_of gens)) }
-    ensures none { (gens : List Op) → IsGroupOf group.now gens → IfErr result (IsNoReply (asked (content_of report.now)) (group_of gens)) }
+    ensures reply { (gens : List Op) → IsGroupOf group.now gens
+        → IfOk result (IsReplied (asked (content_of report.now)) (group_of gens)) }
+    ensures none { (gens : List Op) → IsGroupOf group.now gens
+        → IfErr result (IsNoReply (asked (content_of report.now)) (group_of gens)) }
 {
     match check(alloc, group, report) {
         Ok(verdict) => {

@@ -30,8 +30,10 @@ use std::alloc::Global;
 pub(crate) fn small_reply(alloc: Global, group: &Group, k: &Wave) -> Result<Reply, NoReply>
     requires group { (gens : List Op) × IsGroupOf group.now gens }
     requires limits { IsWithinLimits k.now }
-    ensures reply { (gens : List Op) → IsGroupOf group.now gens → IfOk result (IsReplied (asked (wave_vector k.now)) (group_of gens)) }
-    ensures none { (gens : List Op) → IsGroupOf group.now gens → IfErr result (IsNoReply (asked (wave_vector k.now)) (group_of gens)) }
+    ensures reply { (gens : List Op) → IsGroupOf group.now gens
+        → IfOk result (IsReplied (asked (wave_vector k.now)) (group_of gens)) }
+    ensures none { (gens : List Op) → IsGroupOf group.now gens
+        → IfErr result (IsNoReply (asked (wave_vector k.now)) (group_of gens)) }
 {
     let text = small_text(alloc, group, k)?;
     let status = Status::Done;
@@ -42,8 +44,10 @@ pub(crate) fn small_reply(alloc: Global, group: &Group, k: &Wave) -> Result<Repl
 fn small_text(alloc: Global, group: &Group, k: &Wave) -> Result<Vec<u8>, NoReply>
     requires group { (gens : List Op) × IsGroupOf group.now gens }
     requires limits { IsWithinLimits k.now }
-    ensures text { (gens : List Op) → IsGroupOf group.now gens → IfOk result (λ text. IsModestText gens (wave_vector k.now) text.items) }
-    ensures none { (gens : List Op) → IsGroupOf group.now gens → IfErr result (IsNoReply (asked (wave_vector k.now)) (group_of gens)) }
+    ensures text { (gens : List Op) → IsGroupOf group.now gens
+        → IfOk result (λ text. IsModestText gens (wave_vector k.now) text.items) }
+    ensures none { (gens : List Op) → IsGroupOf group.now gens
+        → IfErr result (IsNoReply (asked (wave_vector k.now)) (group_of gens)) }
 {
     let wave = reduced_wave(group, k);
     match little(alloc, group, &wave) {
@@ -60,7 +64,8 @@ fn small_text(alloc: Global, group: &Group, k: &Wave) -> Result<Vec<u8>, NoReply
 fn reduced_wave(group: &Group, wave: &Wave) -> Wave
     requires group { (gens : List Op) × IsGroupOf group.now gens }
     requires limits { IsWithinLimits wave.now }
-    ensures reduced { (gens : List Op) → IsGroupOf group.now gens → IsReduced (group_of gens) (wave_vector wave.now) (wave_vector result) }
+    ensures reduced { (gens : List Op) → IsGroupOf group.now gens
+        → IsReduced (group_of gens) (wave_vector wave.now) (wave_vector result) }
     ensures limits { IsWithinLimits result }
 {
     reduced(group.centrings(), wave)
@@ -71,8 +76,8 @@ fn table_text(alloc: Global, group: &Group, wave: Wave, t: &Twisted) -> Result<V
     requires table { IsLittleTable group.now (wave_vector wave) (operation_places t.now) (phase_table t.now) }
     requires within { (phase_table t.now).order ≤ ORDER_LIMIT }
     requires steps { HasSteps (phase_table t.now) }
-    ensures { (d : Op) → IfOk result (λ text.
-        IsListText (wave_vector wave) (listed_operations group.now (place_count t.now) (operation_places t.now) d) (phase_table t.now) text.items) }
+    ensures { (d : Op) → IfOk result (λ text. IsListText (wave_vector wave)
+        (listed_operations group.now (place_count t.now) (operation_places t.now) d) (phase_table t.now) text.items) }
 {
     match small_reps::<Number>(alloc, t) {
         Ok(families) => {

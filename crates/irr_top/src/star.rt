@@ -39,8 +39,10 @@ use std::alloc::Global;
 pub(crate) fn star_reply(alloc: Global, group: &Group, k: &Wave) -> Result<Reply, NoReply>
     requires group { (gens : List Op) × IsGroupOf group.now gens }
     requires limits { IsWithinLimits k.now }
-    ensures reply { (gens : List Op) → IsGroupOf group.now gens → IfOk result (IsReplied (asked (wave_vector k.now)) (group_of gens)) }
-    ensures none { (gens : List Op) → IsGroupOf group.now gens → IfErr result (IsNoReply (asked (wave_vector k.now)) (group_of gens)) }
+    ensures reply { (gens : List Op) → IsGroupOf group.now gens
+        → IfOk result (IsReplied (asked (wave_vector k.now)) (group_of gens)) }
+    ensures none { (gens : List Op) → IsGroupOf group.now gens
+        → IfErr result (IsNoReply (asked (wave_vector k.now)) (group_of gens)) }
 {
     match little(alloc, group, k) {
         Ok(t) => {
@@ -59,8 +61,10 @@ pub(crate) fn star_reply(alloc: Global, group: &Group, k: &Wave) -> Result<Reply
 /// the wave vector to them, the operations of the little group, and the factor system. Arms and operations
 /// count from 1. The error is want of memory.
 pub fn text_star(alloc: Global, group: &Group, star: &Arms, t: &Twisted) -> Result<Vec<u8>, Memory>
-    requires { (k : WaveVector) × AreArms group.now k star.now.arms.items × IsLittleTable group.now k (operation_places t.now) (phase_table t.now) }
-    ensures { (k : WaveVector) → AreArms group.now k star.now.arms.items → IsLittleTable group.now k (operation_places t.now) (phase_table t.now)
+    requires { (k : WaveVector) × AreArms group.now k star.now.arms.items
+        × IsLittleTable group.now k (operation_places t.now) (phase_table t.now) }
+    ensures { (k : WaveVector) → AreArms group.now k star.now.arms.items
+        → IsLittleTable group.now k (operation_places t.now) (phase_table t.now)
         → IfOk result (λ text. IsStarText (sign_of group.now.phase) (stands_for group.now) k text.items) }
 {
     let ops = operations(alloc, group, t)?;
@@ -81,7 +85,8 @@ fn lines(
     requires count { length ops.now ≡ place_count t.now }
     ensures { (d : Op) (a : Arm) → ((p : ℕ) (e : Op) → p < place_count t.now
         → slice_index_or ops.now p e ≡ slice_index_or group.now.ops.items (slice_index (operation_places t.now) p) e)
-        → IfOk result (λ text. text.items ≡ star_text (listed_content group.now arms.now (operation_places t.now) (phase_table t.now) d a)) }
+        → IfOk result (λ text. text.items
+        ≡ star_text (listed_content group.now arms.now (operation_places t.now) (phase_table t.now) d a)) }
 {
     let mut text = head(alloc, &arms[0].wave, t.order(), arms.len())?;
     push_arms(alloc, &mut text, group.ops(), arms)?;
@@ -120,7 +125,8 @@ fn push_arm(
     wave: &Wave,
     op: &Op,
 ) -> Result<(), Memory>
-    ensures { OnOk result (text.new.items ≡ text.old.items ++ arm_words number (wave_vector wave.now) (operation op.now)) }
+    ensures { OnOk result (text.new.items
+        ≡ text.old.items ++ arm_words number (wave_vector wave.now) (operation op.now)) }
 {
     text.extend_from_slice(format!(in alloc; "arm {number} {wave} ")?.as_bytes())?;
     let triplet = print_triplet(alloc, op)?;
@@ -131,7 +137,8 @@ fn push_arm(
 
 // Appends the rows of the factor system.
 fn push_factors(alloc: Global, text: &mut Vec<u8>, t: &Twisted) -> Result<(), Memory>
-    ensures { OnOk result (text.new.items ≡ text.old.items ++ pieces (place_count t.now) (factors (phase_table t.now))) }
+    ensures { OnOk result (text.new.items
+        ≡ text.old.items ++ pieces (place_count t.now) (factors (phase_table t.now))) }
 {
     for i in 0..t.len() {
         push_row(alloc, text, t, i)?;
@@ -143,7 +150,8 @@ fn push_factors(alloc: Global, text: &mut Vec<u8>, t: &Twisted) -> Result<(), Me
 // phase.
 fn push_row(alloc: Global, text: &mut Vec<u8>, t: &Twisted, i: u32) -> Result<(), Memory>
     requires { i < place_count t.now }
-    ensures { (p : Fin (place_count t.now)) → to_nat p ≡ i → OnOk result (text.new.items ≡ text.old.items ++ factors (phase_table t.now) p) }
+    ensures { (p : Fin (place_count t.now)) → to_nat p ≡ i
+        → OnOk result (text.new.items ≡ text.old.items ++ factors (phase_table t.now) p) }
 {
     let number = i + 1;
     text.extend_from_slice(format!(in alloc; "factor {number}")?.as_bytes())?;

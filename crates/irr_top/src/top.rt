@@ -22,7 +22,8 @@ pub fn run<I: Source, O: Sink>(
     sink: &mut O,
 ) -> Status
     // The status and what was written are those that the words and the whole input ask for, or tell what went wrong.
-    ensures outcome { Outcome (texts words.now) (I.view source.old) (I.view source.new) (O.view sink.old) (O.view sink.new) result }
+    ensures outcome { Outcome (texts words.now) (I.view source.old) (I.view source.new)
+        (O.view sink.old) (O.view sink.new) result }
 
     // What is asked for is answered, unless a stream fails or memory is wanting.
     ensures asked { (s : Status) → IsOwed (texts words.now) (I.view source.old) s → (result ≡ s) ⊎ IsFailure result }

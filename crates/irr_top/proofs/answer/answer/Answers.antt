@@ -14,7 +14,8 @@ use Rattle.irr_top.proofs.InputBytes.{all_read, at_end, some_bytes, too_many}
 use Rattle.irr_top.proofs.answer.answer.Goals as goal
 
 -- bytes that are not too many
-few : (r : Request) (now bytes : List ℕ) {before after : SinkView} {t : Status} → now ≡ bytes → length bytes ≤ input_limit
+few : (r : Request) (now bytes : List ℕ) {before after : SinkView} {t : Status} → now ≡ bytes
+    → length bytes ≤ input_limit
     → Serves (AsksOfLines r now) before after t → Serves (AsksOfBytes r bytes) before after t
 few r now bytes {before} {after} {t} e l s = serves_more (λ s text a. lines l a) (subst (λ b. Serves (AsksOfLines r b) before after t) e s)
 

@@ -1,5 +1,5 @@
 -- What a task is answered, where the lines of generators are known.
-use Rattle.std.proofs.Common.{◌≡◌, ◌∙◌, refl, subst, sym, List}
+use Rattle.std.proofs.Common.{◌∙◌, refl, subst, sym, List}
 use Rattle.std.specs.List.{All}
 use Rattle.std.proofs.lemmas.List.Elements.{All-map}
 use Rattle.irr_seitz.specs.OperationMeaning.{operation}

@@ -1,7 +1,4 @@
 -- The table has steps, so no subgroup is without one.
-use Rattle.std.proofs.Common.{◌≡◌}
-use Rattle.irr_climb.specs.declared.complete.ClimbError.{ClimbError}
-use Rattle.irr_climb.specs.declared.complete.ClimbError.TheVariants.{Unchained, Memory}
 use Rattle.irr_top.proofs.small.table_text.Goals as goal
 
 pub unreachable-requires : goal.unreachable-requires

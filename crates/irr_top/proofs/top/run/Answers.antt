@@ -1,5 +1,5 @@
 -- How a run ends.
-use Rattle.std.proofs.Common.{◌≡◌, ap, refl, ℕ, Option, List, ◌⊎◌}
+use Rattle.std.proofs.Common.{ℕ, List}
 use Rattle.irr_io.specs.Views.{SourceView, SinkView}
 use Rattle.irr_input.specs.Command.{texts}
 use Rattle.irr_top.specs.RefusalText.{refusal_text}
@@ -17,12 +17,14 @@ use Rattle.irr_top.proofs.InputBytes.{some_bytes}
 use Rattle.irr_top.proofs.top.run.Goals as goal
 
 -- the words of a request
-asked : {words : List (List ℕ)} {source read : SourceView} {sink written : SinkView} {t : Status} (r : Request) → IsRequested words r
+asked : {words : List (List ℕ)} {source read : SourceView} {sink written : SinkView} {t : Status} (r : Request)
+    → IsRequested words r
     → OutcomeOf (AsksOfBytes r) source read sink written t → Outcome words source read sink written t
 asked r is o = record { ends = outcome_more (λ bytes s text a. request r is a) o; read_for_a_command = λ e. (r, is) }
 
 -- faulty words, of which the input is not read
-refused : {words : List (List ℕ)} {n : ℕ} {sink written : SinkView} {t : Status} (source : SourceView) → IsFaultyWord words n
+refused : {words : List (List ℕ)} {n : ℕ} {sink written : SinkView} {t : Status} (source : SourceView)
+    → IsFaultyWord words n
     → Ended (Usage n) (refusal_text (Usage n)) sink written t → Outcome words source source sink written t
 refused source f e = let b = some_bytes source.left in record {
   ends = answered b.0 b.1 (serves (faulty_word f) e) (λ d. absurd (ended_other Done e (λ k. cc) (λ k. cc) (λ k. cc) d));
