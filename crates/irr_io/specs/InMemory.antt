@@ -11,8 +11,8 @@ pub record SourceState : Type 0 where
   pub faults : ℕ
   pub reads : ℕ
 
--- the bytes that are held, how many there is room for, the most that a write takes, the numbers of the writes that fail,
--- and the counts so far
+-- the bytes that are held, how many there is room for, the most that a write takes, the numbers of the writes
+-- that fail, and the counts so far
 pub record SinkState : Type 0 where
   pub held : List ℕ
   pub room : ℕ

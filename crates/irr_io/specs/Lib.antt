@@ -1,3 +1,4 @@
 pub mod Count
 pub mod Told
+pub mod Views
 pub mod InMemory

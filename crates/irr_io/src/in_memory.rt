@@ -59,11 +59,7 @@ impl MemSource {
 }
 
 impl Source for MemSource {
-    ghost left = { λ s. Some s.left };
-
-    ghost faults = { λ s. s.faults };
-
-    ghost reads = { λ s. Some s.reads };
+    ghost view = { λ s. record { left = Some s.left; reads = Some s.reads; faults = s.faults } };
 
     fn read(&mut self, buf: &mut [u8]) -> Result<usize, Failed>
         // What every source promises.
@@ -171,11 +167,7 @@ impl MemSink {
 }
 
 impl Sink for MemSink {
-    ghost held = { λ s. Some s.held };
-
-    ghost faults = { λ s. s.faults };
-
-    ghost writes = { λ s. Some s.writes };
+    ghost view = { λ s. record { held = Some s.held; writes = Some s.writes; faults = s.faults } };
 
     fn write(&mut self, piece: &[u8]) -> Result<usize, Failed>
         // What every sink promises.
@@ -194,7 +186,8 @@ impl Sink for MemSink {
         ensures no_fault { IfOk result (λ _. self.new.faults ≡ self.old.faults) }
         ensures amount { IfOk result (λ n. n
             ≡ min self.old.step (min (length piece.now) (self.old.room - length self.old.held))) }
-        ensures unchanged { (self.new.room ≡ self.old.room) × (self.new.step ≡ self.old.step) × (self.new.fails ≡ self.old.fails) }
+        ensures unchanged { (self.new.room ≡ self.old.room) × (self.new.step ≡ self.old.step)
+            × (self.new.fails ≡ self.old.fails) }
     {
         let left = self.room - self.held.len();
         let is_full = left == 0 && !piece.is_empty();

@@ -1,8 +1,8 @@
 // Sources, and reading one to its end.
-ghost use Rattle.std.specs.Prelude.{◌≡◌, ℕ, List, Option, ◌+◌, ◌<◌, ◌≤◌, ⊤, length, take, drop, IfOk, OnOk, OnErr, IsErrOf, vec_len};
+ghost use Rattle.std.specs.Prelude.{◌≡◌, ◌+◌, ◌<◌, ◌≤◌, ⊤, length, take, drop, IfOk, OnOk, OnErr, IsErrOf, vec_len};
 ghost use Rattle.irr_io.specs.declared.reading.InFault.TheVariants.{Read, Memory};
-ghost use Rattle.irr_io.specs.Count.{Rose, NeverFalls, CountsOne, CountsAtMost};
-ghost use Rattle.irr_io.specs.Told.{IsAtEnd, Takes, TakesAll, Took};
+ghost use Rattle.irr_io.specs.Count.{NeverFalls, CountsOne, CountsAtMost};
+ghost use Rattle.irr_io.specs.Views.{SourceView, IsAtEnd, Takes, TakesAll, Took, ReadFailed};
 
 use crate::Failed;
 use std::alloc::{AllocError, Global};
@@ -10,25 +10,20 @@ use thiserror::Error;
 
 /// What gives bytes.
 pub trait Source {
-    // The bytes that are still to come, where they are told.
-    ghost left: { Self → Option (List ℕ) };
-
-    // How many reads failed, as a count of 64 bits.
-    ghost faults: { Self → ℕ };
-
-    // How many reads there were, where that is told.
-    ghost reads: { Self → Option ℕ };
+    // The bytes that are still to come and the number of reads, where they are told, and how many reads
+    // failed, as a count of 64 bits.
+    ghost view: { Self → SourceView };
 
     /// Puts the next bytes at the start of `buf` and returns how many, which is 0 only at the end of
     /// input or where `buf` is empty. A read that fails is counted and takes nothing.
     fn read(&mut self, buf: &mut [u8]) -> Result<usize, Failed>
         ensures fits { IfOk result (λ n. n ≤ length buf.new) }
-        ensures taken { IfOk result (λ n. Takes (left self.old) (left self.new) (take n buf.new)) }
-        ensures end { IfOk result (λ n. n ≡ 0 → 0 < length buf.old → IsAtEnd (left self.new)) }
-        ensures kept { OnErr result (left self.new ≡ left self.old) }
-        ensures failed { OnErr result (Rose (faults self.old) (faults self.new)) }
-        ensures never_falls { NeverFalls (faults self.old) (faults self.new) }
-        ensures counted { CountsOne (reads self.old) (reads self.new) };
+        ensures taken { IfOk result (λ n. Takes (view self.old) (view self.new) (take n buf.new)) }
+        ensures end { IfOk result (λ n. n ≡ 0 → 0 < length buf.old → IsAtEnd (view self.new)) }
+        ensures kept { OnErr result ((view self.new).left ≡ (view self.old).left) }
+        ensures failed { OnErr result (ReadFailed (view self.old) (view self.new)) }
+        ensures never_falls { NeverFalls (view self.old).faults (view self.new).faults }
+        ensures counted { CountsOne (view self.old).reads (view self.new).reads };
 }
 
 /// Why a source was not read to its end.
@@ -66,21 +61,21 @@ const FIRST_ROOM: usize = 64 * 1024;
 /// Reads `source` to its end, and returns all bytes, at most `limit` of them. Refused at the first
 /// read that fails, as soon as more bytes came, and for want of memory.
 pub fn read_all<I: Source>(alloc: Global, source: &mut I, limit: usize) -> Result<Vec<u8>, InFault>
-    ensures all { IfOk result (λ bytes. TakesAll (I.left source.old) (I.left source.new) bytes.items) }
+    ensures all { IfOk result (λ bytes. TakesAll (I.view source.old) (I.view source.new) bytes.items) }
     ensures within { IfOk result (λ bytes. vec_len bytes ≤ limit) }
 
     // Too long only after more than `limit` bytes came, and a failed read only before that.
     ensures too_long { IsErrOf result InFault.TooLong
-        → Took (I.left source.old) (I.left source.new) (λ piece. limit < length piece) }
+        → Took (I.view source.old) (I.view source.new) (λ piece. limit < length piece) }
     ensures early { IsErrOf result InFault.Read
-        → Took (I.left source.old) (I.left source.new) (λ piece. length piece ≤ limit) }
-    ensures failed { IsErrOf result InFault.Read → Rose (I.faults source.old) (I.faults source.new) }
+        → Took (I.view source.old) (I.view source.new) (λ piece. length piece ≤ limit) }
+    ensures failed { IsErrOf result InFault.Read → ReadFailed (I.view source.old) (I.view source.new) }
 
     // What is left after a refusal is a rear part of what was left.
-    ensures suffix { OnErr result (Took (I.left source.old) (I.left source.new) (λ _. ⊤)) }
+    ensures suffix { OnErr result (Took (I.view source.old) (I.view source.new) (λ _. ⊤)) }
 
-    ensures never_falls { NeverFalls (I.faults source.old) (I.faults source.new) }
-    ensures reads { CountsAtMost (limit + 2) (I.reads source.old) (I.reads source.new) }
+    ensures never_falls { NeverFalls (I.view source.old).faults (I.view source.new).faults }
+    ensures reads { CountsAtMost (limit + 2) (I.view source.old).reads (I.view source.new).reads }
 {
     let mut bytes = Vec::new(alloc);
     let mut filled = 0;
@@ -105,12 +100,13 @@ fn read_after<I: Source>(
     requires { filled < vec_len bytes.old }
     ensures front { take filled bytes.new.items ≡ take filled bytes.old.items }
     ensures fits { IfOk result (λ n. filled + n ≤ length bytes.new.items) }
-    ensures taken { IfOk result (λ n. Takes (I.left source.old) (I.left source.new) (take n (drop filled bytes.new.items))) }
-    ensures end { IfOk result (λ n. n ≡ 0 → IsAtEnd (I.left source.new)) }
-    ensures kept { OnErr result (I.left source.new ≡ I.left source.old) }
-    ensures failed { OnErr result (Rose (I.faults source.old) (I.faults source.new)) }
-    ensures never_falls { NeverFalls (I.faults source.old) (I.faults source.new) }
-    ensures counted { CountsOne (I.reads source.old) (I.reads source.new) }
+    ensures taken { IfOk result (λ n. Takes (I.view source.old) (I.view source.new)
+        (take n (drop filled bytes.new.items))) }
+    ensures end { IfOk result (λ n. n ≡ 0 → IsAtEnd (I.view source.new)) }
+    ensures kept { OnErr result ((I.view source.new).left ≡ (I.view source.old).left) }
+    ensures failed { OnErr result (ReadFailed (I.view source.old) (I.view source.new)) }
+    ensures never_falls { NeverFalls (I.view source.old).faults (I.view source.new).faults }
+    ensures counted { CountsOne (I.view source.old).reads (I.view source.new).reads }
 {
     source.read(&mut bytes[filled..])
 }

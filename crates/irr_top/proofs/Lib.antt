@@ -4,6 +4,8 @@ pub mod InputBytes
 pub mod Numerators
 pub mod Groups
 pub mod Outcomes
+pub mod Orders
+pub mod Statuses
 pub mod SameGenerators
 pub mod Along
 pub mod Judgements

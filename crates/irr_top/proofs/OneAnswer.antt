@@ -1,176 +1,68 @@
--- Words and bytes ask for one status.
---   asked_one          what is asked for is one status
-use Rattle.std.proofs.Common.{◌≡◌, ◌≢◌, refl, sym, ◌∙◌, ap, ap₂, subst, ℕ, ◌+◌, ◌<◌, ◌≤◌, List, Option, Some, None, length, arith}
-use Rattle.irr_space.specs.Operation.{WaveVector}
+-- Words and bytes ask for one status: so does each stage.
+--   asked_once       the status
+use Rattle.std.proofs.Common.{◌≡◌, ◌≢◌, refl, sym, ◌∙◌, ap, ap₂, subst, ℕ, ◌+◌, List, Option, Some, None, length}
+use Rattle.irr_space.specs.Operation.{Operation}
 use Rattle.irr_space.specs.SpaceGroup.{Generated}
-use Rattle.irr_space.specs.Reciprocal.{IsOrder}
 use Rattle.irr_space.specs.Reciprocal.Sign.{minus}
 use Rattle.irr_text.specs.ReportText.{ReportContent}
 use Rattle.irr_seitz.specs.declared.op.Op.{Op}
 use Rattle.irr_kvec.specs.WaveMeaning.{wave_vector}
 use Rattle.irr_input.specs.Command.{AreOneCommand}
-use Rattle.irr_input.specs.InputLines.{HasLines, IsFaultyLine, IsInput, IsLimitLine}
+use Rattle.irr_input.specs.InputLines.{IsInput, HasLines}
 use Rattle.irr_input.specs.declared.input.GenLine.{GenLine}
-use Rattle.irr_input.specs.declared.input.Reason.{Reason}
 use Rattle.irr_input.specs.declared.input.Reason.TheVariants.{Missing}
 use Rattle.irr_input.proofs.OneInput.{fault_or_limit, faulty_line_unique, input_or_fault, input_or_limit, input_unique, limit_line_unique}
 use Rattle.irr_input.proofs.WordForms.{faulty_unique, words_unique}
-use Rattle.irr_close.specs.Limits.{operations}
 use Rattle.irr_close.specs.StandsFor.{IsRefusal, IsAccepted}
 use Rattle.irr_close.specs.declared.CloseError.{CloseError}
 use Rattle.irr_close.specs.declared.CloseError.TheVariants.{Rotations as many_rotations, Denominator as large_denominator, Centrings as many_centrings, Memory as no_memory}
 use Rattle.irr_check.specs.Trials.Reading.{meaning}
-use Rattle.irr_check.specs.Verdict.{IsVerdict}
-use Rattle.irr_check.specs.declared.verdict.Verdict.{Verdict}
-use Rattle.irr_check.proofs.OneTable.{order_unique}
 use Rattle.irr_check.proofs.OneVerdict.{one_verdict}
 use Rattle.irr_top.specs.GroupOf.{group_of}
-use Rattle.irr_top.specs.VerdictText.{verdict_status}
-use Rattle.irr_top.specs.Asked.{Asks, IsAsked, input_limit, order_limit}
-use Rattle.irr_top.specs.Asked.Asks.{usage, too_long, faulty_line, limited_line, no_report, rotations, denominator, centrings, order_too_large, star, report, verdict}
-use Rattle.irr_top.specs.Request.{command_of, HasSections, IsCommand, IsFaultyWord, IsRequested, IsWaveAsked}
+use Rattle.irr_top.specs.CheckCommand.{verdict_status}
+use Rattle.irr_top.specs.Question.{Question, question_of}
+use Rattle.irr_top.specs.Question.Question.{star, small, check}
+use Rattle.irr_top.specs.Answer.{AsksOfGroup, IsReply, order_limit}
+use Rattle.irr_top.specs.Answer.AsksOfGroup.{order_too_large, reply}
+use Rattle.irr_top.specs.Asked.{Asks, AsksOfBytes, AsksOfLines, AsksOfInput, AsksOfGenerators, input_limit, operations_of, passed_limit}
+use Rattle.irr_top.specs.Asked.AsksOfGenerators.{refused, group}
+use Rattle.irr_top.specs.Asked.AsksOfInput.{missing, question}
+use Rattle.irr_top.specs.Asked.AsksOfLines.{faulty_line, limited_line, input}
+use Rattle.irr_top.specs.Asked.AsksOfBytes.{too_long, lines}
+use Rattle.irr_top.specs.Asked.Asks.{faulty_word, request}
+use Rattle.irr_top.specs.Request.{command_of, IsCommand}
 use Rattle.irr_top.specs.declared.request.Request.{Request}
 use Rattle.irr_top.specs.declared.request.Request.TheVariants.{Star, Small, Check}
 use Rattle.irr_top.specs.declared.status.Status.{Status}
-use Rattle.irr_top.specs.declared.status.Status.TheVariants.{Done, Usage, BadInput, TooLarge, Memory}
-use Rattle.irr_top.specs.declared.status.Kind.TheVariants.{Bytes, Report, Rotations, Denominator, Centrings, Order}
+use Rattle.irr_top.specs.declared.status.Status.TheVariants.{Usage, BadInput, TooLarge}
+use Rattle.irr_top.specs.declared.status.Kind.{Kind}
+use Rattle.irr_top.specs.declared.status.Kind.TheVariants.{Report, Order}
 use Rattle.irr_top.proofs.LineNumbers.{line_count_once}
-use Rattle.irr_top.proofs.SameGenerators.{AreSame, same_placed, operations_same, refusal_along, accepted_along}
+use Rattle.irr_top.proofs.Orders.{large_once, within_or_above}
+use Rattle.irr_top.proofs.SameGenerators.{AreSame, same_operations, operations_same, refusal_along, accepted_along}
 
--- what is wrong with an input
-data Wrong (words : List (List ℕ)) (bytes : List ℕ) : Status → Type 0 where
-  line_is_faulty : {n : ℕ} {reason : Reason} → IsFaultyLine bytes n reason → Wrong words bytes (BadInput n reason)
-  line_is_limited : {n : ℕ} → IsLimitLine bytes n → Wrong words bytes (TooLarge (Report n))
-  report_is_missing : {n : ℕ} (lines : List GenLine) → IsRequested words Check → IsInput bytes lines None → HasLines bytes n
-      → Wrong words bytes (BadInput (n + 1) Missing)
+-- of a group
 
--- before the group is made
-data Early (words : List (List ℕ)) (bytes : List ℕ) : Status → Type 0 where
-  words_are_faulty : {n : ℕ} → IsFaultyWord words n → Early words bytes (Usage n)
-  bytes_are_many : IsCommand words → input_limit < length bytes → Early words bytes (TooLarge Bytes)
-  input_is_wrong : {s : Status} → IsCommand words → length bytes ≤ input_limit → Wrong words bytes s → Early words bytes s
+reply_once : (q : Question) (G : Operation → Type 0) (s t : Status) (x y : List ℕ) → IsReply q G s x → IsReply q G t y
+    → s ≡ t
+reply_once (star k) G s t x y a b = a.0 ∙ sym b.0
+reply_once (small k) G s t x y a b = a.0 ∙ sym b.0
+reply_once (check r) G s t x y a b = a.is_status ∙ ap verdict_status (one_verdict meaning minus G r a.is_verdict b.is_verdict) ∙ sym b.is_status
 
--- the status of generators that are refused
-refused_status : CloseError → Status
-refused_status many_rotations = TooLarge Rotations
-refused_status large_denominator = TooLarge Denominator
-refused_status many_centrings = TooLarge Centrings
-refused_status no_memory = Memory
+group_once : (q : Question) (G : Operation → Type 0) {s t : Status} {x y : List ℕ} → AsksOfGroup q G s x
+    → AsksOfGroup q G t y → s ≡ t
+group_once q G (order_too_large {n = m} a) (order_too_large {n = n} b) = ap (λ i. TooLarge (Order i)) (large_once q G m n a b)
+group_once q G (order_too_large {n = m} a) (reply w b) = absurd (within_or_above m order_limit (w a.place m a.is_order) a.above)
+group_once q G (reply w a) (order_too_large {n = n} b) = absurd (within_or_above n order_limit (w b.place n b.is_order) b.above)
+group_once q G {s = s} {t = t} {x = x} {y = y} (reply w a) (reply v b) = reply_once q G s t x y a b
 
--- the request is `check`
-abbrev IsCheck : Request → Type 0
-IsCheck (Star k) = ⊥
-IsCheck (Small k) = ⊥
-IsCheck Check = Unit {0}
+-- of generators
 
-same_check : (r q : Request) → AreOneCommand (command_of r) (command_of q) → IsCheck r → IsCheck q
-same_check (Star k) q h i = absurd i
-same_check (Small k) q h i = absurd i
-same_check Check (Star l) h i = absurd (let e = h.verb in cc)
-same_check Check (Small l) h i = absurd (let e = h.verb in cc)
-same_check Check Check h i = tt
+passes : (e : CloseError) {kind : Kind} → passed_limit e ≡ Some kind → e ≢ no_memory
+passes e {kind} p f = let n : None ≡ Some kind = subst (λ x. passed_limit x ≡ Some kind) f p in cc
 
--- where no limit is passed
-data After (q : Request) (content : Option ReportContent) (gens : List Op) (s : Status) : Type 0 where
-  past : ¬ (IsCheck q) → s ≡ Done → After q content gens s
-  judged : IsCheck q → (r : ReportContent) (v : Verdict) → content ≡ Some r → IsVerdict meaning minus (group_of gens) r v → s ≡ verdict_status v
-      → After q content gens s
-
--- at a wave vector of a group
-data InGroup (q : Request) (content : Option ReportContent) (w : WaveVector) (gens : List Op) : Status → Type 0 where
-  order_is_large : {n : ℕ} → IsOrder (group_of gens) w n → order_limit < n → InGroup q content w gens (TooLarge (Order n))
-  is_within : {n : ℕ} {s : Status} → IsOrder (group_of gens) w n → n ≤ order_limit → After q content gens s → InGroup q content w gens s
-
-data Late (q : Request) (content : Option ReportContent) (w : WaveVector) (gens : List Op) : Status → Type 0 where
-  refused : (e : CloseError) → e ≢ no_memory → IsRefusal gens e → {s : Status} → s ≡ refused_status e → Late q content w gens s
-  accepted : IsAccepted gens → {s : Status} → InGroup q content w gens s → Late q content w gens s
-
-data Stage (words : List (List ℕ)) (bytes : List ℕ) (s : Status) : Type 0 where
-  early : Early words bytes s → Stage words bytes s
-  late : (r : Request) (gens : List Op) (content : Option ReportContent) → IsAsked words bytes r gens content → (w : WaveVector)
-      → IsWaveAsked r content w → Late r content w gens s → Stage words bytes s
-
--- the wave vector that is asked for
-some_wave : (r : Request) (content : Option ReportContent) → HasSections r content → (w : WaveVector) × IsWaveAsked r content w
-some_wave (Star k) content h = (wave_vector k, refl)
-some_wave (Small k) content h = (wave_vector k, refl)
-some_wave Check None h = absurd h
-some_wave Check (Some r) h = (r.wave, refl)
-
-check : IsCheck Check
-check = tt
-
--- a report is there where it is used
-lacking : (r : Request) (content : Option ReportContent) → IsCheck r → None ≡ content → HasSections r content → ⊥
-lacking (Star k) content i f h = i
-lacking (Small k) content i f h = i
-lacking Check None i f h = h
-lacking Check (Some r) i f h = cc
-
-module _ (words : List (List ℕ)) (bytes : List ℕ) where
-  refused_late : {s : Status} (r : Request) (gens : List Op) (content : Option ReportContent) → IsAsked words bytes r gens content
-      → (e : CloseError) → e ≢ no_memory → IsRefusal gens e → s ≡ refused_status e → Stage words bytes s
-  refused_late r gens content a e n f is = let w = some_wave r content a.sections in late r gens content a w.0 w.1 (refused e n f is)
-
-  stage : {s : Status} {text : List ℕ} → Asks words bytes s text → Stage words bytes s
-  unfolding refused_status
-  stage (usage p) = early (words_are_faulty p)
-  stage (too_long c l) = early (bytes_are_many c l)
-  stage (faulty_line c l f) = early (input_is_wrong c l (line_is_faulty f))
-  stage (limited_line c l f) = early (input_is_wrong c l (line_is_limited f))
-  stage (no_report lines c l i h) = early (input_is_wrong (Check, c) l (report_is_missing lines c i h))
-  stage (rotations {content = content} r gens a f) = refused_late r gens content a many_rotations (λ e. cc) f refl
-  stage (denominator {content = content} r gens a f) = refused_late r gens content a large_denominator (λ e. cc) f refl
-  stage (centrings {content = content} r gens a f) = refused_late r gens content a many_centrings (λ e. cc) f refl
-  stage (order_too_large {content = content} r gens w a i at o l) = late r gens content a w at (accepted i (order_is_large o l))
-  stage (star {content = content} k gens c a i o l is) = late (Star k) gens content a (wave_vector k) refl
-      (accepted i (is_within o l (past (λ e. e) refl)))
-  stage (report {content = content} k gens r a i o l is) = late (Small k) gens content a (wave_vector k) refl
-      (accepted i (is_within o l (past (λ e. e) refl)))
-  stage (verdict {v = v} gens r a i o l j) = late Check gens (Some r) a r.wave refl (accepted i (is_within o l (judged tt r v refl j refl)))
-
-  too_many : (n m : ℕ) → n ≤ m → m < n → ⊥
-  too_many n m l h = omega arith
-
-  wrong_unique : {s t : Status} → Wrong words bytes s → Wrong words bytes t → s ≡ t
-  wrong_unique (line_is_faulty {n = m} {reason = r} f) (line_is_faulty {n = n} {reason = s} g) =
-      let same = faulty_line_unique bytes m n r s f g in ap₂ BadInput same.0 same.1
-  wrong_unique (line_is_faulty {n = m} {reason = r} f) (line_is_limited {n = n} g) = absurd (fault_or_limit bytes m n r f g)
-  wrong_unique (line_is_faulty {n = m} {reason = r} f) (report_is_missing lines c i h) = absurd (input_or_fault bytes lines None m r i f)
-  wrong_unique (line_is_limited {n = m} f) (line_is_faulty {n = n} {reason = r} g) = absurd (fault_or_limit bytes n m r g f)
-  wrong_unique (line_is_limited {n = m} f) (line_is_limited {n = n} g) = ap (λ x. TooLarge (Report x)) (limit_line_unique bytes m n f g)
-  wrong_unique (line_is_limited {n = m} f) (report_is_missing lines c i h) = absurd (input_or_limit bytes lines None m i f)
-  wrong_unique (report_is_missing lines c i h) (line_is_faulty {n = n} {reason = r} g) = absurd (input_or_fault bytes lines None n r i g)
-  wrong_unique (report_is_missing lines c i h) (line_is_limited {n = n} g) = absurd (input_or_limit bytes lines None n i g)
-  wrong_unique (report_is_missing {n = m} lines c i h) (report_is_missing {n = n} others d j g) =
-      ap (λ x. BadInput (x + 1) Missing) (line_count_once bytes m n h g)
-
-  early_unique : {s t : Status} → Early words bytes s → Early words bytes t → s ≡ t
-  early_unique (words_are_faulty {n = m} p) (words_are_faulty {n = n} q) = ap Usage (faulty_unique IsCommand words m n p q)
-  early_unique (words_are_faulty p) (bytes_are_many c l) = absurd (p.no_command c)
-  early_unique (words_are_faulty p) (input_is_wrong c l f) = absurd (p.no_command c)
-  early_unique (bytes_are_many c l) (words_are_faulty q) = absurd (q.no_command c)
-  early_unique (bytes_are_many c l) (bytes_are_many d m) = refl
-  early_unique (bytes_are_many c l) (input_is_wrong d m f) = absurd (too_many (length bytes) input_limit m l)
-  early_unique (input_is_wrong c l f) (words_are_faulty q) = absurd (q.no_command c)
-  early_unique (input_is_wrong c l f) (bytes_are_many d m) = absurd (too_many (length bytes) input_limit l m)
-  early_unique (input_is_wrong c l f) (input_is_wrong d i g) = wrong_unique f g
-
-  wrong_or_late : {s : Status} (r : Request) (gens : List Op) (content : Option ReportContent) → Wrong words bytes s
-      → IsAsked words bytes r gens content → ⊥
-  wrong_or_late r gens content (line_is_faulty {n = n} {reason = reason} f) a = input_or_fault bytes a.lines content n reason a.spells f
-  wrong_or_late r gens content (line_is_limited {n = n} f) a = input_or_limit bytes a.lines content n a.spells f
-  wrong_or_late r gens content (report_is_missing lines c i h) a = lacking r content
-      (same_check Check r (words_unique words (command_of Check) (command_of r) c a.requested) check)
-      (input_unique bytes lines a.lines None content i a.spells).1 a.sections
-
-  early_or_late : {s : Status} (r : Request) (gens : List Op) (content : Option ReportContent) → Early words bytes s
-      → IsAsked words bytes r gens content → ⊥
-  early_or_late r gens content (words_are_faulty p) a = p.no_command (r, a.requested)
-  early_or_late r gens content (bytes_are_many c l) a = too_many (length bytes) input_limit a.within l
-  early_or_late r gens content (input_is_wrong c l f) a = wrong_or_late r gens content f a
-
-refusal_unique : (gens : List Op) (d e : CloseError) → d ≢ no_memory → e ≢ no_memory → IsRefusal gens d → IsRefusal gens e → d ≡ e
+refusal_unique : (gens : List Op) (d e : CloseError) → d ≢ no_memory → e ≢ no_memory → IsRefusal gens d
+    → IsRefusal gens e → d ≡ e
 refusal_unique gens no_memory e m n p q = absurd (m refl)
 refusal_unique gens many_rotations many_rotations m n p q = refl
 refusal_unique gens many_rotations large_denominator m n p q = absurd (p q.0)
@@ -191,85 +83,93 @@ refused_or_accepted gens large_denominator n r a = r.1 a.denominator
 refused_or_accepted gens many_centrings n r a = r.2 a.centrings
 refused_or_accepted gens no_memory n r a = n refl
 
-module _ (k : Request) (content : Option ReportContent) (w : WaveVector) (gens : List Op) where
-  large_or_not : (m n : ℕ) → IsOrder (group_of gens) w m → order_limit < m → IsOrder (group_of gens) w n → n ≤ order_limit → ⊥
-  large_or_not m n o l p h = let e : m ≡ n = order_unique (group_of gens) w m n o p in let f : order_limit < n = subst
-      (λ x. order_limit < x) e l in omega arith
+limit_once : (gens : List Op) (d e : CloseError) {k l : Kind} → passed_limit d ≡ Some k → passed_limit e ≡ Some l
+    → IsRefusal gens d
+    → IsRefusal gens e → k ≡ l
+limit_once gens d e {k} {l} p q r u =
+    let same : d ≡ e = refusal_unique gens d e (passes d p) (passes e q) r u in
+    let some : Some k ≡ Some l = sym p ∙ ap passed_limit same ∙ q in
+    cc
 
-  after_unique : {s t : Status} → After k content gens s → After k content gens t → s ≡ t
-  after_unique (past n p) (past m q) = p ∙ sym q
-  after_unique (past n p) (judged e r v c j f) = absurd (n e)
-  after_unique (judged e r v c j f) (past n p) = absurd (n e)
-  after_unique (judged e r v c j f) (judged d q u h i g) =
-      let same : r ≡ q = cc in
-      let there : IsVerdict meaning minus (group_of gens) r u = subst (λ x. IsVerdict meaning minus (group_of gens) x u) (sym same) i in
-      f ∙ ap verdict_status (one_verdict meaning minus (group_of gens) r j there) ∙ sym g
+generators_once : (q : Question) (gens : List Op) {s t : Status} {x y : List ℕ} → AsksOfGenerators q gens s x
+    → AsksOfGenerators q gens t y → s ≡ t
+generators_once q gens (refused d p r) (refused e o u) = ap TooLarge (limit_once gens d e p o r u)
+generators_once q gens (refused d p r) (group a g) = absurd (refused_or_accepted gens d (passes d p) r a)
+generators_once q gens (group a g) (refused d p r) = absurd (refused_or_accepted gens d (passes d p) r a)
+generators_once q gens (group a g) (group b h) = group_once q (group_of gens) g h
 
-  in_group_unique : {s t : Status} → InGroup k content w gens s → InGroup k content w gens t → s ≡ t
-  in_group_unique (order_is_large {n = m} o l) (order_is_large {n = n} p h) = ap (λ x. TooLarge (Order x))
-      (order_unique (group_of gens) w m n o p)
-  in_group_unique (order_is_large {n = m} o l) (is_within {n = n} p h x) = absurd (large_or_not m n o l p h)
-  in_group_unique (is_within {n = n} p h x) (order_is_large {n = m} o l) = absurd (large_or_not m n o l p h)
-  in_group_unique (is_within p l x) (is_within q m y) = after_unique x y
+generators_along : (q : Question) {gens hens : List Op} {s : Status} {x : List ℕ} → AreSame gens hens
+    → AsksOfGenerators q gens s x
+    → AsksOfGenerators q hens s x
+generators_along q same (refused e p r) = refused e p (refusal_along e same r)
+generators_along q {s = s} {x = x} same (group a g) = group (accepted_along same a)
+    (subst (λ gs. AsksOfGroup q (Generated gs) s x) (operations_same same) g)
 
-  late_unique : {s t : Status} → Late k content w gens s → Late k content w gens t → s ≡ t
-  late_unique (refused d m p e) (refused f n q g) = e ∙ ap refused_status (refusal_unique gens d f m n p q) ∙ sym g
-  late_unique (refused d m p e) (accepted a i) = absurd (refused_or_accepted gens d m p a)
-  late_unique (accepted a i) (refused d m p e) = absurd (refused_or_accepted gens d m p a)
-  late_unique (accepted a i) (accepted b j) = in_group_unique i j
+-- of an input
 
--- the same at another reading
-module _ (r q : Request) (one : AreOneCommand (command_of r) (command_of q)) (content : Option ReportContent) (w : WaveVector) (gens hens : List Op)
-    (same : AreSame gens hens) where
-  one_group : operations gens ≡ operations hens
-  one_group = operations_same same
+question_once : (r q : Request) (c d : Option ReportContent) → AreOneCommand (command_of r) (command_of q) → c ≡ d
+    → question_of r c ≡ question_of q d
+question_once (Star k) (Star l) c d h e = let a = h.arguments in let w : wave_vector k ≡ wave_vector l = cc in ap (λ x. Some (star x)) w
+question_once (Star k) (Small l) c d h e = absurd (let a = h.verb in cc)
+question_once (Star k) Check c d h e = absurd (let a = h.verb in cc)
+question_once (Small k) (Star l) c d h e = absurd (let a = h.verb in cc)
+question_once (Small k) (Small l) c d h e = let a = h.arguments in let w : wave_vector k ≡ wave_vector l = cc in ap (λ x. Some (small x)) w
+question_once (Small k) Check c d h e = absurd (let a = h.verb in cc)
+question_once Check (Star l) c d h e = absurd (let a = h.verb in cc)
+question_once Check (Small l) c d h e = absurd (let a = h.verb in cc)
+question_once Check Check c d h e = ap (question_of Check) e
 
-  backwards : AreOneCommand (command_of q) (command_of r)
-  backwards = record { verb = sym one.verb; arguments = sym one.arguments }
+-- two readings of one input by one command
+module _ (r q : Request) (c d : Option ReportContent) (gens hens : List Op) (m n : ℕ) (one : question_of r c ≡ question_of q d)
+    (same : AreSame gens hens) (lines_same : m ≡ n) where
+  missing_or_not : {k : Question} → question_of r c ≡ None → question_of q d ≡ Some k → ⊥
+  missing_or_not {k} a b = let f : None ≡ Some k = sym a ∙ one ∙ b in cc
 
-  after_along : {s : Status} → After r content gens s → After q content hens s
-  after_along (past n p) = past (λ i. n (same_check q r backwards i)) p
-  after_along (judged e c v f j g) = judged (same_check r q one e) c v f (subst (λ gs. IsVerdict meaning minus (Generated gs) c v) one_group j) g
+  found_or_not : {k : Question} → question_of r c ≡ Some k → question_of q d ≡ None → ⊥
+  found_or_not {k} a b = let f : Some k ≡ None = sym a ∙ one ∙ b in cc
 
-  in_group_along : {s : Status} → InGroup r content w gens s → InGroup q content w hens s
-  in_group_along (order_is_large {n = n} o h) = order_is_large (subst (λ gs. IsOrder (Generated gs) w n) one_group o) h
-  in_group_along (is_within {n = n} o m x) = is_within (subst (λ gs. IsOrder (Generated gs) w n) one_group o) m (after_along x)
+  same_question : (k l : Question) → question_of r c ≡ Some k → question_of q d ≡ Some l → k ≡ l
+  same_question k l a b = let f : Some k ≡ Some l = sym a ∙ one ∙ b in cc
 
-  reading_along : {s : Status} → Late r content w gens s → Late q content w hens s
-  reading_along (refused d m p f) = refused d m (refusal_along d same p) f
-  reading_along (accepted a i) = accepted (accepted_along same a) (in_group_along i)
+  pub input_once : {s t : Status} {x y : List ℕ} → AsksOfInput r gens c m s x → AsksOfInput q hens d n t y → s ≡ t
+  input_once (missing a) (missing b) = ap (λ i. BadInput (i + 1) Missing) lines_same
+  input_once (missing a) (question k b g) = absurd (missing_or_not a b)
+  input_once (question k a g) (missing b) = absurd (found_or_not a b)
+  input_once {s = s} {x = x} (question k a g) (question l b h) = generators_once l hens
+      (generators_along l same (subst (λ i. AsksOfGenerators i gens s x) (same_question k l a b) g)) h
 
-late_along : (r q : Request) (c d : Option ReportContent) (w v : WaveVector) (gens hens : List Op) {s : Status}
-    → AreOneCommand (command_of r) (command_of q) → c ≡ d → w ≡ v → AreSame gens hens → Late r c w gens s → Late q d v hens s
-late_along r q c d w v gens hens {s} e f g same l = subst (λ x. Late q x v hens s) f
-    (subst (λ x. Late q c x hens s) g (reading_along r q e c w gens hens same l))
+-- of bytes
+module _ (r q : Request) (one : AreOneCommand (command_of r) (command_of q)) (bytes : List ℕ) where
+  inputs_once : (ks ls : List GenLine) (c d : Option ReportContent) (m n : ℕ) → IsInput bytes ks c
+      → IsInput bytes ls d → HasLines bytes m
+      → HasLines bytes n → {s t : Status} {x y : List ℕ} → AsksOfInput r (operations_of ks) c m s x
+      → AsksOfInput q (operations_of ls) d n t y → s ≡ t
+  inputs_once ks ls c d m n i j h g a b =
+      let both = input_unique bytes ks ls c d i j in
+      input_once r q c d (operations_of ks) (operations_of ls) m n (question_once r q c d one both.1) (same_operations ks ls both.0)
+      (line_count_once bytes m n h g) a b
 
--- one command on one input asks for one wave vector
-same_wave : (r q : Request) (c d : Option ReportContent) (w v : WaveVector) → AreOneCommand (command_of r) (command_of q) → c ≡ d → IsWaveAsked r c w
-    → IsWaveAsked q d v → w ≡ v
-same_wave (Star k) (Star l) c d w v h f p q = let e = h.arguments in cc
-same_wave (Star k) (Small l) c d w v h f p q = absurd (let e = h.verb in cc)
-same_wave (Star k) Check c d w v h f p q = absurd (let e = h.verb in cc)
-same_wave (Small k) (Star l) c d w v h f p q = absurd (let e = h.verb in cc)
-same_wave (Small k) (Small l) c d w v h f p q = let e = h.arguments in cc
-same_wave (Small k) Check c d w v h f p q = absurd (let e = h.verb in cc)
-same_wave Check (Star l) c d w v h f p q = absurd (let e = h.verb in cc)
-same_wave Check (Small l) c d w v h f p q = absurd (let e = h.verb in cc)
-same_wave Check Check None d w v h f p q = absurd p
-same_wave Check Check (Some a) None w v h f p q = absurd q
-same_wave Check Check (Some a) (Some b) w v h f p q = let e : a ≡ b = cc in p ∙ ap (λ (r : ReportContent). r.wave) e ∙ sym q
+  lines_once : {s t : Status} {x y : List ℕ} → AsksOfLines r bytes s x → AsksOfLines q bytes t y → s ≡ t
+  lines_once (faulty_line {n = m} {reason = a} f) (faulty_line {n = n} {reason = b} g) =
+      let same = faulty_line_unique bytes m n a b f g in ap₂ BadInput same.0 same.1
+  lines_once (faulty_line {n = m} {reason = a} f) (limited_line {n = n} g) = absurd (fault_or_limit bytes m n a f g)
+  lines_once (faulty_line {n = m} {reason = a} f) (input ls c n i h b) = absurd (input_or_fault bytes ls c m a i f)
+  lines_once (limited_line {n = m} f) (faulty_line {n = n} {reason = b} g) = absurd (fault_or_limit bytes n m b g f)
+  lines_once (limited_line {n = m} f) (limited_line {n = n} g) = ap (λ i. TooLarge (Report i)) (limit_line_unique bytes m n f g)
+  lines_once (limited_line {n = m} f) (input ls c n i h b) = absurd (input_or_limit bytes ls c m i f)
+  lines_once (input ls c n i h a) (faulty_line {n = m} {reason = b} g) = absurd (input_or_fault bytes ls c m b i g)
+  lines_once (input ls c n i h a) (limited_line {n = m} g) = absurd (input_or_limit bytes ls c m i g)
+  lines_once (input ks c m i h a) (input ls d n j g b) = inputs_once ks ls c d m n i j h g a b
 
-module _ (words : List (List ℕ)) (bytes : List ℕ) where
-  stage_unique : {s t : Status} → Stage words bytes s → Stage words bytes t → s ≡ t
-  stage_unique (early x) (early y) = early_unique words bytes x y
-  stage_unique (early x) (late r gens c a w at l) = absurd (early_or_late words bytes r gens c x a)
-  stage_unique (late r gens c a w at l) (early x) = absurd (early_or_late words bytes r gens c x a)
-  stage_unique (late r gens c a w at l) (late q hens d b v there m) =
-      let command = words_unique words (command_of r) (command_of q) a.requested b.requested in
-      let input = input_unique bytes a.lines b.lines c d a.spells b.spells in
-      late_unique q d v hens
-      (late_along r q c d w v gens hens command input.1
-      (same_wave r q c d w v command input.1 at there) (same_placed gens hens a.lines b.lines a.are b.are input.0) l) m
+  pub bytes_once : {s t : Status} {x y : List ℕ} → AsksOfBytes r bytes s x → AsksOfBytes q bytes t y → s ≡ t
+  bytes_once (too_long l) (too_long h) = refl
+  bytes_once (too_long l) (lines h b) = absurd (within_or_above (length bytes) input_limit h l)
+  bytes_once (lines l a) (too_long h) = absurd (within_or_above (length bytes) input_limit l h)
+  bytes_once (lines l a) (lines h b) = lines_once a b
 
-  pub asked_one : {s t : Status} {x y : List ℕ} → Asks words bytes s x → Asks words bytes t y → s ≡ t
-  asked_one p q = stage_unique (stage words bytes p) (stage words bytes q)
+pub asked_once : (words : List (List ℕ)) (bytes : List ℕ) {s t : Status} {x y : List ℕ} → Asks words bytes s x
+    → Asks words bytes t y → s ≡ t
+asked_once words bytes (faulty_word {n = m} p) (faulty_word {n = n} q) = ap Usage (faulty_unique IsCommand words m n p q)
+asked_once words bytes (faulty_word p) (request r a b) = absurd (p.no_command (r, a))
+asked_once words bytes (request r a b) (faulty_word p) = absurd (p.no_command (r, a))
+asked_once words bytes (request r a b) (request q c d) = bytes_once r q (words_unique words (command_of r) (command_of q) a c) bytes b d

@@ -1,6 +1,6 @@
 -- Generators that one text spells.
 --   AreSame gens hens       they stand for the same operations, one by one
---   same_placed             the operations on lines are one by one those on lines that say the same
+--   same_operations         the operations on lines are one by one those on lines that say the same
 --   operations_same         so the groups are one
 --   refusal_along, accepted_along     and pass the same limits
 use Rattle.std.proofs.Common.{◌≡◌, refl, sym, ap, ap₂, subst, ℕ, ◌≤◌, List, [], ◌∷◌, map, arith}
@@ -29,16 +29,11 @@ same_first k l ks ls e = (ap (λ (p : Placed). p.operation) (let f : first_place
     first_placed : GenLine → Placed
     first_placed g = record { line = g.line; operation = operation g.op }
 
-same_operations : (ks ls : List GenLine) → placed ks ≡ placed ls → AreSame (map (λ g. g.op) ks) (map (λ g. g.op) ls)
+pub same_operations : (ks ls : List GenLine) → placed ks ≡ placed ls → AreSame (map (λ g. g.op) ks) (map (λ g. g.op) ls)
 same_operations [] [] e = nothing
 same_operations [] (l ∷ ls) e = absurd (cc)
 same_operations (k ∷ ks) [] e = absurd (cc)
 same_operations (k ∷ ks) (l ∷ ls) e = let both = same_first k l ks ls e in pair both.0 (same_operations ks ls both.1)
-
-pub same_placed : (gens hens : List Op) (ks ls : List GenLine) → gens ≡ map (λ g. g.op) ks → hens ≡ map (λ g. g.op) ls → placed ks ≡ placed ls
-    → AreSame gens hens
-same_placed gens hens ks ls e f h = subst (λ l. AreSame l hens) (sym e)
-    (subst (AreSame (map (λ g. g.op) ks)) (sym f) (same_operations ks ls h))
 
 flipped : {gens hens : List Op} → AreSame gens hens → AreSame hens gens
 flipped nothing = nothing

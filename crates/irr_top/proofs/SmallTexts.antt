@@ -1,7 +1,8 @@
 -- The text of a report at a wave vector, from that on the table of the little group of its reduced wave vector.
---   little_steps       the table of a little group has steps
---   small_text_of      a report
 --   order_there        the order
+--   small_text_of      a report
+--   table_steps        each subgroup of the table has a step
+--   small_reply_of     the text is the reply
 use Rattle.std.proofs.Common.{ap, subst, refl, ℕ, ◌≤◌, List}
 use Rattle.irr_algebra.specs.Fin.{Fin}
 use Rattle.irr_space.specs.Operation.{Operation, WaveVector}
@@ -13,25 +14,23 @@ use Rattle.irr_space.specs.PhaseTable.{PhaseTable, IsTableOf}
 use Rattle.irr_text.specs.ReportText.{list_report}
 use Rattle.irr_seitz.specs.PhaseMeaning.{sign_of}
 use Rattle.irr_seitz.specs.declared.op.Op.{Op}
+use Rattle.irr_chain.specs.NormalSubgroup.{HasSteps}
+use Rattle.irr_steps.proofs.Tables.{tables_have_steps}
 use Rattle.irr_cocycle.proofs.Reciprocals.{equivalent_sym}
 use Rattle.irr_close.specs.StandsFor.{stands_for}
 use Rattle.irr_close.specs.declared.group.Group.{Group}
-use Rattle.irr_chain.specs.NormalSubgroup.{HasSteps}
-use Rattle.irr_steps.proofs.Tables.{tables_have_steps}
 use Rattle.irr_little.specs.Table.{IsLittleTable, listed_operations}
 use Rattle.irr_little.proofs.Spaces.{form_of}
 use Rattle.irr_check.proofs.Along.{numbering_along, order_along, table_along}
-use Rattle.irr_top.specs.Asked.{order_limit}
+use Rattle.irr_top.specs.Answer.{AreWithin, order_limit}
 use Rattle.irr_top.specs.GroupOf.{IsGroupOf, group_of}
-use Rattle.irr_top.specs.SmallText.{IsListText, IsSmallText}
+use Rattle.irr_top.specs.ListText.{IsListText, IsModestText}
+use Rattle.irr_top.specs.Question.Question.{small}
+use Rattle.irr_top.specs.SmallCommand.{IsSmallReply}
+use Rattle.irr_top.specs.declared.status.Status.TheVariants.{Done}
+use Rattle.irr_top.proofs.Orders.{one_within}
 use Rattle.irr_top.proofs.Groups.{is_group, order_at}
 use Rattle.irr_top.proofs.Members.{some_item}
-
-pub little_steps : (group : Group) (w : WaveVector) (xs : List ℕ) {h : ℕ} (T : PhaseTable h) → IsLittleTable group w xs T → HasSteps T
-little_steps group w xs {h} T table =
-    let d : Op = some_item group.ops.items 0 (form_of group).nonempty in
-    tables_have_steps (sign_of group.phase) (stands_for group) (IsInLittleGroup (stands_for group) w) w (listed_operations group h xs d) T
-    (table.numbering d) (table.table d)
 
 module _ (group : Group) (gens : List Op) (is : IsGroupOf group gens) (k w : WaveVector) (reduced : IsReduced (group_of gens) k w) where
   pub order_there : (n : ℕ) → IsOrder (stands_for group) w n → IsOrder (group_of gens) k n
@@ -55,7 +54,8 @@ module _ (group : Group) (gens : List Op) (is : IsGroupOf group gens) (k w : Wav
     is_order : IsOrder (group_of gens) k T.order
     is_order = order_there T.order (table.table some_operation).is_order
 
-    pub small_text_of : (text : List ℕ) → ((d : Op) → IsListText w (listed_operations group h xs d) T text) → IsSmallText gens k text
+    pub small_text_of : (text : List ℕ) → ((d : Op) → IsListText w (listed_operations group h xs d) T text)
+        → IsModestText gens k text
     small_text_of text all = let t = all some_operation in record {
       order = T.order;
       is_order = is_order;
@@ -77,3 +77,14 @@ module _ (group : Group) (gens : List Op) (is : IsGroupOf group gens) (k w : Wav
       modest = t.modest;
       is_text = t.is_text;
     }
+
+    pub table_steps : HasSteps T
+    table_steps = tables_have_steps minus (group_of gens) (IsInLittleGroup (group_of gens) w) w ops T numbering is_table
+
+-- the text is the reply
+pub small_reply_of : (gens : List Op) (k : WaveVector) (text : List ℕ) → IsModestText gens k text
+    → AreWithin (small k) (group_of gens) × IsSmallReply (group_of gens) k Done text
+small_reply_of gens k text t = (
+  one_within (group_of gens) k t.order t.is_order t.within,
+  (refl, record { content = t.content; is_report = t.is_report; is_text = t.is_text }),
+)

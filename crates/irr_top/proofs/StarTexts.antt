@@ -3,7 +3,7 @@
 --   some_arm, arms_in_list    the arms are some, and their operations are in the list
 --   star_at                   what the arms and the table say is the star of the wave vector
 --   star-parts                the lines are the text
---   star_of_group, no_star_of_group     the text for the group of generators, or why there is none
+--   star_reply_of, no_star_of     the reply for the group of generators, or the order that is too large
 --   arm_inside, listed_item   the operation of an arm
 --   head-parts, row-parts, factor-word     the parts of lines
 use Rattle.std.proofs.Common.{◌≡◌, sym, ◌∙◌, ap, ap₂, subst, refl, ℕ, suc, ◌+◌, ◌<◌, ◌≤◌, List, ◌∷◌, [], ◌++◌, append_assoc, length, get_or, slice_index, arith}
@@ -30,19 +30,21 @@ use Rattle.irr_close.specs.declared.group.Group.{Group}
 use Rattle.irr_close.proofs.Bareness.{first_of}
 use Rattle.irr_close.proofs.SpaceGroups.{space_group}
 use Rattle.irr_little.specs.Arms.{AreArms}
-use Rattle.irr_little.specs.Table.{IsLittleTable, IsLittleRefusal, listed_operations}
-use Rattle.irr_little.specs.declared.LittleError.{LittleError}
-use Rattle.irr_little.specs.declared.LittleError.TheVariants.{OrderTooLarge, Memory}
+use Rattle.irr_little.specs.Table.{IsLittleTable, listed_operations}
 use Rattle.irr_little.specs.declared.arms.Arm.{Arm}
 use Rattle.irr_little.proofs.Spaces.{form_of, has_canonical, numbering_of}
 use Rattle.irr_report.specs.Printed.{numbered, operation_text}
 use Rattle.irr_report.proofs.LineTexts.{head_regroup}
 use Rattle.irr_report.proofs.Pieces.{pieces-numbered}
 use Rattle.irr_check.proofs.Along.{order_along}
-use Rattle.irr_top.specs.StarText.{IsStarTextAt, IsStarText, IsNoStar, AreInList, head_text, arm_words, arm_text, factor, factors, listed_content}
-use Rattle.irr_top.specs.Asked.{order_limit}
+use Rattle.irr_top.specs.StarCommand.{IsStarReply, IsStarText}
+use Rattle.irr_top.specs.Question.Question.{star}
+use Rattle.irr_top.specs.StarText.{AreInList, head_text, arm_words, arm_text, factor, factors, listed_content}
+use Rattle.irr_top.specs.Answer.{AreWithin, IsTooLargeAt, order_limit}
+use Rattle.irr_top.specs.declared.status.Status.TheVariants.{Done}
 use Rattle.irr_top.specs.GroupOf.{IsGroupOf, group_of}
 use Rattle.irr_top.proofs.Along.{star_along}
+use Rattle.irr_top.proofs.Orders.{first_above, one_within}
 use Rattle.irr_top.proofs.FirstArms.{first_arm, first_wave}
 
 -- an operation and an arm past the ends of the lists
@@ -144,24 +146,29 @@ module _ (group : Group) (gens : List Op) (is : IsGroupOf group gens) (k : WaveV
   order_of_star : (n : ℕ) → IsOrder (stands_for group) k n → IsOrder (group_of gens) k n
   order_of_star = order_along (stands_for group) (group_of gens) is.stands k
 
-  pub star_of_group : (xs : List ℕ) {h : ℕ} (T : PhaseTable h) → IsLittleTable group k xs T → T.order ≤ order_limit → (text : List ℕ)
-      → IsStarTextAt (sign_of group.phase) (stands_for group) k text → IsStarText gens k text
-  star_of_group xs T table within text at = record {
-    order = T.order;
-    is_order = order_of_star T.order (table.table (other_operation group)).is_order;
-    within = within;
-    content = at.content;
-    is_star = subst (λ s. IsStarOf s (group_of gens) k at.content) (ap sign_of is.phase)
-        (star_along (stands_for group) (group_of gens) is.stands (sign_of group.phase) k at.content at.is_star);
-    is_text = at.is_text;
-  }
+  pub star_reply_of : (xs : List ℕ) {h : ℕ} (T : PhaseTable h) → IsLittleTable group k xs T → T.order ≤ order_limit
+      → (text : List ℕ)
+      → IsStarText (sign_of group.phase) (stands_for group) k text
+      → AreWithin (star k) (group_of gens) × IsStarReply (group_of gens) k Done text
+  star_reply_of xs T table within text at = (
+    one_within (group_of gens) k T.order (order_of_star T.order (table.table (other_operation group)).is_order) within,
+    (
+      refl,
+      record {
+        content = at.content;
+        is_star = subst (λ s. IsStarOf s (group_of gens) k at.content) (ap sign_of is.phase)
+            (star_along (stands_for group) (group_of gens) is.stands (sign_of group.phase) k at.content at.is_star);
+        is_text = at.is_text;
+      },
+    ),
+  )
 
-  pub no_star_of_group : (e : LittleError) → IsLittleRefusal group k e → IsNoStar gens k e
-  no_star_of_group (OrderTooLarge n) r = (order_of_star n r.0, r.1)
-  no_star_of_group Memory r = r
+  pub no_star_of : (n : ℕ) → IsOrder (stands_for group) k n → order_limit < n → IsTooLargeAt (star k) (group_of gens) n
+  no_star_of n o l = first_above (star k) (group_of gens) n (refl, order_of_star n o) l
 
 -- the operation of an arm
-pub arm_inside : (ops : List Op) (arms : List Arm) → AreInList ops arms → (i : ℕ) (x : Arm) → i < length arms → x ≡ get_or arms i x
+pub arm_inside : (ops : List Op) (arms : List Arm) → AreInList ops arms → (i : ℕ) (x : Arm) → i < length arms
+    → x ≡ get_or arms i x
     → x.op < length ops
 arm_inside ops arms all i x l is = subst (λ (y : Arm). y.op < length ops) (sym is) (all i x l)
 
@@ -169,11 +176,13 @@ pub listed_item : (ops : List Op) (n : ℕ) (g d : Op) → n < length ops → g 
 listed_item ops n g d l is = is ∙ get_or_default ops n g d l
 
 -- the parts of the lines
-pub head-parts : (w n a : List ℕ) → codes "star 1\nwave " ++ (w ++ (codes "\norder " ++ (n ++ (codes "\narms " ++ (a ++ codes "\n")))))
+pub head-parts : (w n a : List ℕ)
+    → codes "star 1\nwave " ++ (w ++ (codes "\norder " ++ (n ++ (codes "\narms " ++ (a ++ codes "\n")))))
     ≡ line (codes "star 1") ++ line (codes "wave" ++ next_word w) ++ line (codes "order" ++ next_word n) ++ line (codes "arms" ++ next_word a)
 head-parts w n a = head_regroup (codes "star 1\n") (codes "wave ") (codes "order ") (codes "arms ") (10 ∷ []) w n a
 
-factor-parts : (before k t : List ℕ) → ((before ++ (codes "factor " ++ k)) ++ t) ++ 10 ∷ [] ≡ before ++ line (codes "factor" ++ next_word k ++ t)
+factor-parts : (before k t : List ℕ)
+    → ((before ++ (codes "factor " ++ k)) ++ t) ++ 10 ∷ [] ≡ before ++ line (codes "factor" ++ next_word k ++ t)
 factor-parts before k t = simp append_assoc
 
 pub row-parts : (before : List ℕ) {h : ℕ} (T : PhaseTable h) (p : Fin h) (i : ℕ) → to_nat p ≡ i

@@ -1,7 +1,7 @@
 -- The group that generators of an input generate.
 --   group_of gens            the group that the generators generate
---   IsGroupOf group gens     the generators can be read, the group stands for the operations that they generate, and the sign of its
---                            phase is minus
+--   IsGroupOf group gens     the generators can be read, the group stands for the operations that they generate, and
+--                            the sign of its phase is minus
 use Rattle.std.specs.Prelude.{◌↔◌, ◌≡◌, List}
 use Rattle.std.specs.List.{All}
 use Rattle.irr_space.specs.Operation.{Operation}

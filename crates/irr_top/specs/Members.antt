@@ -16,4 +16,5 @@ pub record IsMember {S : Type 0} {G : Ghosts S} (n h : ℕ) (f : Family S G) : T
 
 pub record HasTraces {S : Type 0} {G : Ghosts S} (n h : ℕ) (r : RepText S G) : Type 0 where
   pub shape : HasShape n h r.family.dim r.family.mats.items
-  pub row : IsRowOf {h = h} G.order_of G.value n (λ i. trace (matrix_at n r.family.dim r.family.mats.items i)) r.chars.items
+  pub row : IsRowOf {h = h} G.order_of G.value n (λ i. trace (matrix_at n r.family.dim r.family.mats.items i))
+      r.chars.items

@@ -1,20 +1,62 @@
--- How a command ends.
---   Outcome words left leaves read_faults read_faulted faults faulted held holds wrote writes t
---     t is the status of the text that words and the whole input ask for, or of its writing; or a read failed, or memory was wanting
-use Rattle.std.specs.Prelude.{ℕ, ◌≡◌, Option, List}
-use Rattle.irr_io.specs.Count.{Rose}
-use Rattle.irr_io.specs.Told.{IsAtEnd}
-use Rattle.irr_top.specs.Request.{IsCommand}
-use Rattle.irr_top.specs.Asked.{IsAllOf}
-use Rattle.irr_top.specs.Ended.{Serves}
+-- How a run ends, and what it leaves behind.
+--   Ended s text before after t    t is s and the whole text was written; or t tells of a write that failed, and a front
+--                                  of it was written; or t tells of want of memory, and nothing was written
+--   Serves asks before after t     so for a status and a text that are asked for; or memory was wanting before it was
+--                                  known what is asked for, and nothing was written
+--   IsAllOf left bytes             the bytes are all that a source has left, where it tells
+--   OutcomeOf asks source read sink written t    so for what the whole input asks for, and at Done the input was read to
+--                                  its end; or t tells of a read that failed, and nothing was written. The source was
+--                                  first source and then read, the sink first sink and then written
+--   Outcome words source read sink written t     so for what words and the input ask for, and a read fails only for a
+--                                  command
+--   IsOwed words source s          s is the status of faulty words; or the source tells all its bytes, and words and
+--                                  bytes ask for s
+--   IsFailure t                    t tells that a stream failed or that memory was wanting
+use Rattle.std.specs.Prelude.{ℕ, ◌≡◌, ⊤, Option, None, Some, List, length}
+use Rattle.std.specs.Io.{StartsWith}
+use Rattle.irr_io.specs.Count.{CountsAtMost}
+use Rattle.irr_io.specs.Views.{SourceView, SinkView, IsAtEnd, Gains, Gained, ReadFailed, WriteFailed}
+use Rattle.irr_top.specs.Request.{IsCommand, IsFaultyWord}
+use Rattle.irr_top.specs.Asked.{Asks}
 use Rattle.irr_top.specs.declared.status.Status.{Status}
-use Rattle.irr_top.specs.declared.status.Status.TheVariants.{Done, ReadFault, Memory}
+use Rattle.irr_top.specs.declared.status.Status.TheVariants.{Done, Rejected, Usage, BadInput, TooLarge, ReadFault, WriteFault, Memory}
 
-pub data Outcome (words : List (List ℕ)) (left leaves : Option (List ℕ)) (read_faults read_faulted faults faulted : ℕ) (held holds : Option (List ℕ))
-    (wrote writes : Option ℕ) : Status → Type 0 where
-  served : {t : Status} (bytes : List ℕ) → IsAllOf left bytes → Serves words bytes faults faulted held holds wrote writes t
-      → (t ≡ Done → IsAtEnd leaves)
-      → Outcome words left leaves read_faults read_faulted faults faulted held holds wrote writes t
-  read_fault : IsCommand words → Rose read_faults read_faulted → holds ≡ held
-      → Outcome words left leaves read_faults read_faulted faults faulted held holds wrote writes ReadFault
-  no_memory : holds ≡ held → Outcome words left leaves read_faults read_faulted faults faulted held holds wrote writes Memory
+pub data Ended (s : Status) (text : List ℕ) (before after : SinkView) : Status → Type 0 where
+  whole : Gains before after text → CountsAtMost (length text) before.writes after.writes → Ended s text before after s
+  cut_off : WriteFailed before after → Gained before after (StartsWith text)
+      → CountsAtMost (length text) before.writes after.writes → Ended s text before after WriteFault
+  no_memory : after.held ≡ before.held → Ended s text before after Memory
+
+pub data Serves (asks : Status → List ℕ → Type 0) (before after : SinkView) : Status → Type 0 where
+  serves : {s t : Status} {text : List ℕ} → asks s text → Ended s text before after t → Serves asks before after t
+  without_memory : after.held ≡ before.held → Serves asks before after Memory
+
+abbrev pub IsAllOf : Option (List ℕ) → List ℕ → Type 0
+IsAllOf None bytes = ⊤
+IsAllOf (Some left) bytes = bytes ≡ left
+
+pub data OutcomeOf (asks : List ℕ → Status → List ℕ → Type 0) (source read : SourceView) (sink written : SinkView)
+    : Status → Type 0 where
+  answered : {t : Status} (bytes : List ℕ) → IsAllOf source.left bytes → Serves (asks bytes) sink written t
+      → (t ≡ Done → IsAtEnd read) → OutcomeOf asks source read sink written t
+  read_fault : ReadFailed source read → written.held ≡ sink.held → OutcomeOf asks source read sink written ReadFault
+
+pub record Outcome (words : List (List ℕ)) (source read : SourceView) (sink written : SinkView) (t : Status)
+    : Type 0 where
+  pub ends : OutcomeOf (Asks words) source read sink written t
+  pub read_for_a_command : t ≡ ReadFault → IsCommand words
+
+pub data IsOwed (words : List (List ℕ)) (source : SourceView) : Status → Type 0 where
+  by_words : {n : ℕ} → IsFaultyWord words n → IsOwed words source (Usage n)
+  by_bytes : {s : Status} (bytes text : List ℕ) → source.left ≡ Some bytes → Asks words bytes s text
+      → IsOwed words source s
+
+abbrev pub IsFailure : Status → Type 0
+IsFailure Done = ⊥
+IsFailure (Rejected clause rep i j) = ⊥
+IsFailure (Usage n) = ⊥
+IsFailure (BadInput line reason) = ⊥
+IsFailure (TooLarge kind) = ⊥
+IsFailure ReadFault = ⊤
+IsFailure WriteFault = ⊤
+IsFailure Memory = ⊤

@@ -31,7 +31,8 @@ abbrev pub refusal_text : Status → List ℕ
 refusal_text Done = []
 refusal_text (Rejected clause rep i j) = []
 refusal_text (Usage n) = codes "usage " ++ decimal n ++ 10 ∷ []
-refusal_text (BadInput line reason) = codes "bad input line " ++ decimal line ++ codes ": " ++ reason_text reason ++ 10 ∷ []
+refusal_text (BadInput line reason) = codes "bad input line " ++ decimal line ++ codes ": " ++ reason_text reason
+    ++ 10 ∷ []
 refusal_text (TooLarge kind) = codes "too large: " ++ kind_text kind ++ 10 ∷ []
 refusal_text ReadFault = []
 refusal_text WriteFault = []

@@ -1,18 +1,12 @@
 -- The commands that are served.
 --   command_of r           the command of a request
---   named_wave r           the wave vector that it names, if it names one
---   HasSections r report   the input has the sections that the request uses: `check` a report
---   IsWaveAsked r report w     w is the wave vector that is asked for: the one that the request names, or for `check` the report's
 --   IsServed c             the command is served
 --   IsRequested words r    the words are those of the command
 --   IsCommand words        the words are those of a command that is served
 --   BeginsServed words     the first word is that of a command that is served
---   IsFaultyWord words n   the n-th word, counted from 1, is the first that no served command has there, or the first that is missing
-use Rattle.std.specs.Prelude.{ℕ, ◌≡◌, ◌⊎◌, Option, Some, None, List, [], ◌∷◌, codes}
-use Rattle.irr_space.specs.Operation.{WaveVector}
-use Rattle.irr_kvec.specs.declared.wave.Wave.{Wave}
-use Rattle.irr_kvec.specs.WaveMeaning.{wave_vector}
-use Rattle.irr_text.specs.ReportText.{ReportContent}
+--   IsFaultyWord words n   the n-th word, counted from 1, is the first that no served command has there, or the first
+--                          that is missing
+use Rattle.std.specs.Prelude.{ℕ, ◌≡◌, ◌⊎◌, List, [], ◌∷◌, codes}
 use Rattle.irr_input.specs.Command.{AreWords, IsFaulty}
 use Rattle.irr_input.specs.declared.words.Command.{Command}
 use Rattle.irr_input.specs.declared.words.Command.TheVariants as commands
@@ -33,23 +27,6 @@ IsServed (commands.Subduce k) = ⊥
 IsServed (commands.Compat k l m) = ⊥
 IsServed commands.Check = Unit {0}
 IsServed (commands.Gen n) = ⊥
-
-abbrev pub named_wave : Request → Option Wave
-named_wave (Star k) = Some k
-named_wave (Small k) = Some k
-named_wave Check = None
-
-abbrev pub HasSections : Request → Option ReportContent → Type 0
-HasSections (Star k) report = Unit {0}
-HasSections (Small k) report = Unit {0}
-HasSections Check None = ⊥
-HasSections Check (Some r) = Unit {0}
-
-abbrev pub IsWaveAsked : Request → Option ReportContent → WaveVector → Type 0
-IsWaveAsked (Star k) report w = w ≡ wave_vector k
-IsWaveAsked (Small k) report w = w ≡ wave_vector k
-IsWaveAsked Check None w = ⊥
-IsWaveAsked Check (Some r) w = w ≡ r.wave
 
 abbrev pub IsRequested : List (List ℕ) → Request → Type 0
 IsRequested words r = AreWords words (command_of r)

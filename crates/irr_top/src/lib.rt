@@ -2,25 +2,29 @@
 #![tactic(auto)]
 
 mod answer;
+mod check;
 mod laws;
 mod refusal;
+mod reply;
 mod report;
 mod request;
-mod small_group;
-mod small_text;
-mod star_text;
+mod small;
+mod star;
 mod status;
+mod task;
 mod top;
-mod verdict_text;
 
+pub use check::text_verdict;
 pub use irr_check::{Clause, Verdict};
 pub use irr_input::Reason;
-pub use laws::{one_star_of_a_wave_vector, one_status_is_asked_for, yes_is_for_complete_reports};
+pub use laws::{
+    an_outcome_status_by_status, one_star_of_a_wave_vector, one_status_is_asked_for,
+    yes_is_for_complete_reports,
+};
 pub use refusal::text_refusal;
-pub use star_text::text_star;
+pub use star::text_star;
 pub use status::{Kind, Status};
 pub use top::run;
-pub use verdict_text::text_verdict;
 
 #[cfg(test)]
 mod tests;

@@ -1,7 +1,7 @@
 // The lines that tell of a refusal.
 ghost use Rattle.std.specs.Prelude.{suc, ◌≡◌, IfOk, string_bytes};
 ghost use Rattle.irr_top.specs.RefusalText.{HasLine, refusal_text};
-ghost use Rattle.irr_top.specs.Ended.{Ended};
+ghost use Rattle.irr_top.specs.Outcome.{Ended};
 
 use crate::status::{Kind, Status};
 use irr_input::Reason;
@@ -79,7 +79,7 @@ fn column_of(place: u64) -> u128
 
 /// Writes a text, and ends with its status.
 pub fn finish<O: Sink>(status: Status, text: &[u8], sink: &mut O) -> Status
-    ensures { Ended status text.now (O.faults sink.old) (O.faults sink.new) (O.held sink.old) (O.held sink.new) (O.writes sink.old) (O.writes sink.new) result }
+    ensures { Ended status text.now (O.view sink.old) (O.view sink.new) result }
 {
     match write_all(sink, text) {
         Ok(()) => status,
@@ -90,7 +90,7 @@ pub fn finish<O: Sink>(status: Status, text: &[u8], sink: &mut O) -> Status
 /// Writes the line of a refusal, and ends with it.
 pub fn refuse<O: Sink>(alloc: Global, status: Status, sink: &mut O) -> Status
     requires { HasLine status }
-    ensures { Ended status (refusal_text status) (O.faults sink.old) (O.faults sink.new) (O.held sink.old) (O.held sink.new) (O.writes sink.old) (O.writes sink.new) result }
+    ensures { Ended status (refusal_text status) (O.view sink.old) (O.view sink.new) result }
 {
     match text_refusal(alloc, &status) {
         Ok(text) => finish(status, &text, sink),

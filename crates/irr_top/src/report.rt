@@ -14,7 +14,7 @@ ghost use Rattle.irr_climb.specs.Sizes.{HasSmallNumbers};
 ghost use Rattle.irr_report.specs.Content.{FitsTogether};
 ghost use Rattle.irr_report.specs.OfList.{IsReportOfList};
 ghost use Rattle.irr_top.specs.Members.{IsMember, HasTraces};
-ghost use Rattle.irr_top.specs.SmallText.{IsListText};
+ghost use Rattle.irr_top.specs.ListText.{IsListText};
 
 use irr_char::character;
 use irr_close::Group;
@@ -39,8 +39,8 @@ pub(crate) fn list_text<S: Scalar>(
     requires within { (phase_table t.now).order ≤ ORDER_LIMIT }
     requires list { IsSmallList (phase_table t.now) families.items }
     requires numbers { All (HasSmallNumbers (phase_table t.now).order (place_count t.now)) families.items }
-    ensures { (d : Op) → IfOk result (λ text.
-        IsListText (wave_vector wave) (listed_operations group.now (place_count t.now) (operation_places t.now) d) (phase_table t.now) text.items) }
+    ensures { (d : Op) → IfOk result (λ text. IsListText (wave_vector wave)
+        (listed_operations group.now (place_count t.now) (operation_places t.now) d) (phase_table t.now) text.items) }
 {
     let report = report_of(alloc, group, wave, t, families)?;
     let text = print_report(alloc, &report)?;
@@ -62,7 +62,8 @@ fn report_of<S: Scalar>(
     ensures wave { IfOk result (λ r. r.wave ≡ wave) }
     ensures list { IfOk result (λ r. (d : Op) (L : Representations (phases_at (phase_table t.now)))
         → AreRead (phase_table t.now).order (phases_at (phase_table t.now)) L families.items
-        → IsReportOfList r (listed_operations group.now (place_count t.now) (operation_places t.now) d) (phase_table t.now) L) }
+        → IsReportOfList r (listed_operations group.now (place_count t.now) (operation_places t.now) d)
+        (phase_table t.now) L) }
 {
     let ops = operations(alloc, group, t)?;
     let reps = representations(alloc, t, families)?;
@@ -79,7 +80,8 @@ pub(crate) fn operations(alloc: Global, group: &Group, t: &Twisted) -> Result<Ve
     requires places { (p : ℕ) → Contains (operation_places t.now) p → p < length group.now.ops.items }
     ensures count { IfOk result (λ ops. length ops.items ≡ place_count t.now) }
     ensures ops { IfOk result (λ ops. (a : ℕ) (d : Op) → a < place_count t.now
-        → slice_index_or ops.items a d ≡ slice_index_or group.now.ops.items (slice_index (operation_places t.now) a) d) }
+        → slice_index_or ops.items a d
+        ≡ slice_index_or group.now.ops.items (slice_index (operation_places t.now) a) d) }
 {
     let all = group.ops();
     let mut ops = Vec::new(alloc);

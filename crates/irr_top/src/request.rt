@@ -1,8 +1,7 @@
 // The commands that are served.
 ghost use Rattle.std.specs.Prelude.{◌≡◌, ◌↔◌, IfOk, IfErr, IfSome, IsNone, IsTrue};
-ghost use Rattle.irr_input.specs.Command.{texts};
-ghost use Rattle.irr_top.specs.Request.{command_of, named_wave, BeginsServed, IsFaultyWord, IsServed, IsRequested};
-ghost use Rattle.irr_kvec.specs.Centrings.{IsWithinLimits};
+ghost use Rattle.irr_input.specs.Command.{texts, AreLimited};
+ghost use Rattle.irr_top.specs.Request.{command_of, BeginsServed, IsFaultyWord, IsServed, IsRequested};
 
 use irr_input::{Command, Usage, read_words};
 use irr_kvec::Wave;
@@ -22,7 +21,7 @@ pub(crate) enum Request {
 /// that is served has there, or that is missing.
 pub(crate) fn served(words: &[Vec<u8>]) -> Result<Request, u32>
     ensures requested { IfOk result (λ r. IsRequested (texts words.now) r) }
-    ensures limits { IfOk result (λ r. IfSome (named_wave r) IsWithinLimits) }
+    ensures limits { IfOk result (λ r. AreLimited (command_of r)) }
     ensures faulty { IfErr result (λ n. IsFaultyWord (texts words.now) n) }
 {
     match read_words(words) {

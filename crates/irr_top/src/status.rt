@@ -22,7 +22,7 @@ pub enum Kind {
 }
 
 /// How a run ends.
-#[derive(Debug, PartialEq, Eq, Drop)]
+#[derive(Clone, Copy, Debug, PartialEq, Eq)]
 pub enum Status {
     /// The text that was asked for is written.
     Done,

@@ -154,7 +154,8 @@ fn a_screw_axis_at_the_zone_face(rt: HostRuntime) -> Result<(), Fail> {
     Ok(())
 }
 
-// The star and the little group of the screw axis at the face of the zone: its square is a translation with the phase z^2.
+// The star and the little group of the screw axis at the face of the zone: its square is a translation with
+// the phase z^2.
 const SCREW_STAR: &str =
     "star 1\nwave 0,1/2,0\norder 4\narms 1\narm 1 0,1/2,0 x,y,z\nops 2\nop 1 x,y,z\nop 2 -x,y+1/2,-z\n\
     factor 1 1:0 2:0\nfactor 2 2:0 1:2\nend\n";

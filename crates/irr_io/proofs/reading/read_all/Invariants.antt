@@ -5,8 +5,7 @@ use Rattle.irr_io.proofs.reading.read_all.Given as goal
 
 abbrev pub invariant-loop-filled : goal.invariant-loop-filled
 invariant-loop-filled g l =
-    FilledSoFar (g.I.Source.left l.initial.source) (g.I.Source.left l.source) (g.I.Source.faults l.initial.source) (g.I.Source.faults l.source)
-    (g.I.Source.reads l.initial.source) (g.I.Source.reads l.source) l.bytes.items l.filled l.limit
+    FilledSoFar (g.I.Source.view l.initial.source) (g.I.Source.view l.source) l.bytes.items l.filled l.limit
 
 abbrev pub decreases-loop-filled : goal.decreases-loop-filled
 decreases-loop-filled g l = l.limit + 1 - l.filled

@@ -1,51 +1,39 @@
 -- How a request ends.
-use Rattle.std.proofs.Common.{subst, refl, ℕ, List, Option}
-use Rattle.irr_io.specs.Told.{IsAtEnd}
-use Rattle.irr_top.specs.RefusalText.{refusal_text}
-use Rattle.irr_top.specs.Asked.{input_limit, IsAllOf}
-use Rattle.irr_top.specs.Asked.Asks.{too_long}
-use Rattle.irr_top.specs.Ended.{Replies}
-use Rattle.irr_top.specs.Ended.Replies.{serves, without_memory as replies_without_memory}
-use Rattle.irr_top.specs.Outcome.{Outcome}
-use Rattle.irr_top.specs.Outcome.Outcome.{served, read_fault, no_memory as without_memory}
+use Rattle.std.proofs.Common.{◌≡◌, refl, subst, rules, ℕ, ◌≤◌, List, length}
+use Rattle.irr_io.specs.Views.{SinkView}
+use Rattle.irr_top.specs.Asked.{AsksOfBytes, AsksOfLines, input_limit}
+use Rattle.irr_top.specs.Asked.AsksOfBytes.{too_long, lines}
+use Rattle.irr_top.specs.Outcome.{Serves}
+use Rattle.irr_top.specs.Outcome.Serves.{serves, without_memory}
+use Rattle.irr_top.specs.Outcome.OutcomeOf.{answered, read_fault}
+use Rattle.irr_top.specs.declared.request.Request.{Request}
 use Rattle.irr_top.specs.declared.status.Status.{Status}
-use Rattle.irr_top.specs.declared.status.Status.TheVariants.{TooLarge}
-use Rattle.irr_top.specs.declared.status.Kind.TheVariants.{Bytes}
-use Rattle.irr_top.proofs.Outcomes.{ended_not_done}
-use Rattle.irr_top.proofs.InputBytes.{all_read, at_end, too_many}
+use Rattle.irr_top.specs.declared.status.Status.TheVariants.{Done, Memory}
+use Rattle.irr_top.proofs.Outcomes.{ended_other, serves_more}
+use Rattle.irr_top.proofs.InputBytes.{all_read, at_end, some_bytes, too_many}
 use Rattle.irr_top.proofs.answer.answer.Goals as goal
 
--- what was replied to the whole input
-replied : {words : List (List ℕ)} {left leaves : Option (List ℕ)} {read_faults read_faulted faults faulted : ℕ} {held holds : Option (List ℕ)}
-    {wrote writes : Option ℕ} {t : Status}
-    (bytes : List ℕ) → IsAllOf left bytes → IsAtEnd leaves → Replies words bytes faults faulted held holds wrote writes t
-    → Outcome words left leaves read_faults read_faulted faults faulted held holds wrote writes t
-replied bytes all end (serves s) = served bytes all s (λ d. end)
-replied bytes all end (replies_without_memory e) = without_memory e
+-- bytes that are not too many
+few : (r : Request) (now bytes : List ℕ) {before after : SinkView} {t : Status} → now ≡ bytes
+    → length bytes ≤ input_limit
+    → Serves (AsksOfLines r now) before after t → Serves (AsksOfBytes r bytes) before after t
+few r now bytes {before} {after} {t} e l s = serves_more (λ s text a. lines l a) (subst (λ b. Serves (AsksOfLines r b) before after t) e s)
 
 pub returns-in-Ok-clause-outcome : goal.returns-in-Ok-clause-outcome
-returns-in-Ok-clause-outcome g c = λ words s.
-    let P : List ℕ → Type 0 = λ bytes. Replies words bytes (g.O.Sink.faults c.args.sink.now) (g.O.Sink.faults c.answer_input.new.sink)
-    (g.O.Sink.held c.args.sink.now) (g.O.Sink.held c.answer_input.new.sink)
-    (g.O.Sink.writes c.args.sink.now) (g.O.Sink.writes c.answer_input.new.sink) c.answer_input.result in
-    replied c.in-Ok.bytes.items (all_read _ _ c.in-Ok.bytes.items c.in-Ok.ensures.all) (at_end _ _ c.in-Ok.bytes.items c.in-Ok.ensures.all)
-    (subst P c.deref.ensures.value (c.answer_input.ensures words s))
+returns-in-Ok-clause-outcome g c = answered c.in-Ok.bytes.items (all_read _ _ c.in-Ok.bytes.items c.in-Ok.ensures.all)
+    (few c.args.request.now _ c.in-Ok.bytes.items c.deref.ensures.value (search rules) c.answer_lines.ensures)
+    (λ d. at_end _ _ c.in-Ok.bytes.items c.in-Ok.ensures.all)
 
 pub returns-in-Err-Read-clause-outcome : goal.returns-in-Err-Read-clause-outcome
-returns-in-Err-Read-clause-outcome g c = λ words s. read_fault (c.args.request.now, s)
-    (let f = rw c.in-Err-Read.field-0-is at c.in-Err-Read.ensures.failed in f refl) refl
+returns-in-Err-Read-clause-outcome g c = read_fault (let f = rw c.in-Err-Read.field-0-is at c.in-Err-Read.ensures.failed in f refl) refl
 
 pub returns-in-Err-TooLong-clause-outcome : goal.returns-in-Err-TooLong-clause-outcome
-returns-in-Err-TooLong-clause-outcome g c = λ words s.
-    let t = too_many input_limit (g.I.Source.left c.args.source.now) (g.I.Source.left c.read_all.new.source)
+returns-in-Err-TooLong-clause-outcome g c =
+    let t = too_many input_limit (g.I.Source.view c.args.source.now).left (g.I.Source.view c.read_all.new.source).left
     (let f = rw c.in-Err-TooLong.field-0-is at c.in-Err-TooLong.ensures.too_long in f refl) in
-    served t.0 t.1 (record {
-      status = TooLarge Bytes;
-      text = refusal_text (TooLarge Bytes);
-      asks = too_long
-          (c.args.request.now, s) t.2;
-      ended = c.refuse.ensures;
-    }) (λ e. absurd (ended_not_done c.refuse.ensures (λ k. cc) e))
+    answered t.0 t.1 (serves (too_long t.2) c.refuse.ensures)
+    (λ e. absurd (ended_other Done c.refuse.ensures (λ k. cc) (λ k. cc) (λ k. cc) e))
 
 pub returns-in-Err-Memory-clause-outcome : goal.returns-in-Err-Memory-clause-outcome
-returns-in-Err-Memory-clause-outcome g c = λ words s. without_memory refl
+returns-in-Err-Memory-clause-outcome g c = let b = some_bytes (g.I.Source.view c.args.source.now).left in
+    answered b.0 b.1 (without_memory refl) (λ e. absurd (let k : Memory ≡ Done = e in cc))

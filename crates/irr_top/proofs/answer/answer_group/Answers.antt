@@ -1,31 +1,20 @@
--- The answer to each request where the group is known.
-use Rattle.std.proofs.Common.{subst, IfSome}
-use Rattle.irr_kvec.specs.Centrings.{IsWithinLimits}
-use Rattle.irr_input.specs.InputLines.{content}
-use Rattle.irr_top.specs.Request.{named_wave, HasSections}
-use Rattle.irr_top.specs.Asked.{IsAsked}
-use Rattle.irr_top.specs.declared.request.Request.{Request}
+-- What a task is answered, where the group is known.
+use Rattle.std.proofs.Common.{subst, refl, List, ℕ}
+use Rattle.irr_top.specs.Answer.AsksOfGroup.{order_too_large, reply}
+use Rattle.irr_top.specs.Outcome.{Ended}
+use Rattle.irr_top.specs.Outcome.Serves.{serves, without_memory}
 use Rattle.irr_top.proofs.answer.answer_group.Goals as goal
 
-pub answer_star-requires-clause-limits : goal.answer_star-requires-clause-limits
-answer_star-requires-clause-limits g c = subst (λ (r : Request). IfSome (named_wave r) IsWithinLimits) c.in-Star.is c.requires.limits
+pub returns-in-Ok : goal.returns-in-Ok
+returns-in-Ok g c = λ gens is.
+    let r = c.in-Ok.ensures.reply gens is in
+    serves (reply r.0 r.1) (subst (λ (text : List ℕ). Ended c.in-Ok.reply.status text (g.O.Sink.view c.args.sink.now)
+    (g.O.Sink.view c.finish.new.sink) c.finish.result) c.deref.ensures.value c.finish.ensures)
 
-pub answer_small-requires-clause-limits : goal.answer_small-requires-clause-limits
-answer_small-requires-clause-limits g c = subst (λ (r : Request). IfSome (named_wave r) IsWithinLimits) c.in-Small.is c.requires.limits
+pub returns-in-Err-OrderTooLarge : goal.returns-in-Err-OrderTooLarge
+returns-in-Err-OrderTooLarge g c = λ gens is.
+    let f = rw c.in-Err-OrderTooLarge.field-0-is at c.in-Err-OrderTooLarge.ensures.none gens is in
+    serves (order_too_large f) c.refuse.ensures
 
-pub answer_check-requires-clause-sections : goal.answer_check-requires-clause-sections
-answer_check-requires-clause-sections g c = subst (λ (r : Request). HasSections r (content c.args.report.now)) c.in-Check.is c.requires.sections
-
-pub returns-in-Star : goal.returns-in-Star
-returns-in-Star g c = λ words bytes gens a i is.
-    c.answer_star.ensures words bytes gens (content c.args.report.now)
-    (subst (λ r. IsAsked words bytes r gens (content c.args.report.now)) c.in-Star.is a) i is
-
-pub returns-in-Small : goal.returns-in-Small
-returns-in-Small g c = λ words bytes gens a i is.
-    c.answer_small.ensures words bytes gens (content c.args.report.now)
-    (subst (λ r. IsAsked words bytes r gens (content c.args.report.now)) c.in-Small.is a) i is
-
-pub returns-in-Check : goal.returns-in-Check
-returns-in-Check g c = λ words bytes gens a i is.
-    c.answer_check.ensures words bytes gens (subst (λ r. IsAsked words bytes r gens (content c.args.report.now)) c.in-Check.is a) i is
+pub returns-in-Err-Memory : goal.returns-in-Err-Memory
+returns-in-Err-Memory g c = λ gens is. without_memory refl

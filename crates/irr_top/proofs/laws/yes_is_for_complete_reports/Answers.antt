@@ -1,6 +1,6 @@
 -- Yes is for complete reports.
-use Rattle.irr_top.proofs.Judgements.{asked_complete}
+use Rattle.irr_top.proofs.Judgements.{input_complete}
 use Rattle.irr_top.proofs.laws.yes_is_for_complete_reports.Goals as goal
 
 pub returns : goal.returns
-returns c = asked_complete
+returns c = λ bytes lines gens r i v. input_complete bytes lines gens r i v

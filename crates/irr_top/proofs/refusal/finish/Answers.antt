@@ -1,5 +1,5 @@
 -- How the writing of a text ends.
-use Rattle.irr_top.specs.Ended.Ended.{whole, cut_off}
+use Rattle.irr_top.specs.Outcome.Ended.{whole, cut_off}
 use Rattle.irr_top.proofs.refusal.finish.Goals as goal
 
 pub returns-in-Ok : goal.returns-in-Ok

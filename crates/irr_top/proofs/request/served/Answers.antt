@@ -1,20 +1,11 @@
 -- The words of a command that is served, or the first faulty one.
-use Rattle.std.proofs.Common.{refl, subst, IfSome, IsTrue}
-use Rattle.irr_kvec.specs.Centrings.{IsWithinLimits}
+use Rattle.std.proofs.Common.{refl, subst, IsTrue}
 use Rattle.irr_input.specs.Command.{texts, AreLimited}
-use Rattle.irr_top.specs.Request.{command_of, named_wave}
-use Rattle.irr_top.specs.declared.request.Request.{Request}
-use Rattle.irr_top.specs.declared.request.Request.TheVariants.{Star, Small, Check}
 use Rattle.irr_top.proofs.RequestWords.{faulty_served, faulty_unserved, unserved_first}
 use Rattle.irr_top.proofs.request.served.Goals as goal
 
-limited : (r : Request) → AreLimited (command_of r) → IfSome (named_wave r) IsWithinLimits
-limited (Star k) a = a
-limited (Small k) a = a
-limited Check a = tt
-
 pub returns-in-Some-clause-limits : goal.returns-in-Some-clause-limits
-returns-in-Some-clause-limits c = limited c.in-Some.request (subst AreLimited c.in-Some.ensures.some c.in-Ok.ensures.limits)
+returns-in-Some-clause-limits c = subst AreLimited c.in-Some.ensures.some c.in-Ok.ensures.limits
 
 pub returns-then-begins_served-clause-faulty : goal.returns-then-begins_served-clause-faulty
 returns-then-begins_served-clause-faulty c = faulty_served (texts c.args.words.now) c.in-Err.field-0.0 (c.begins_served.ensures.0 c.if-begins_served.true)

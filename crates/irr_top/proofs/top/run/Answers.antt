@@ -1,78 +1,45 @@
--- The clauses of the top call, from how its command ends.
-use Rattle.std.proofs.Common.{ℕ, List, Option}
+-- How a run ends.
+use Rattle.std.proofs.Common.{ℕ, List}
+use Rattle.irr_io.specs.Views.{SourceView, SinkView}
 use Rattle.irr_input.specs.Command.{texts}
-use Rattle.irr_top.specs.Request.{IsFaultyWord}
-use Rattle.irr_top.specs.Ended.{Ended}
-use Rattle.irr_top.specs.declared.status.Status.{Status}
 use Rattle.irr_top.specs.RefusalText.{refusal_text}
-use Rattle.irr_top.specs.Asked.Asks.{usage}
-use Rattle.irr_top.specs.Outcome.{Outcome}
-use Rattle.irr_top.specs.Outcome.Outcome.{served}
-use Rattle.irr_top.specs.declared.status.Status.TheVariants.{Usage}
-use Rattle.irr_top.proofs.Outcomes.{ended_not_done, outcome_answers, outcome_read_fault, outcome_write_fault, outcome_memory, outcome_end, outcome_asked, outcome_usage}
+use Rattle.irr_top.specs.Request.{IsFaultyWord, IsRequested}
+use Rattle.irr_top.specs.Asked.{AsksOfBytes}
+use Rattle.irr_top.specs.Asked.Asks.{faulty_word, request}
+use Rattle.irr_top.specs.Outcome.{Ended, OutcomeOf, Outcome}
+use Rattle.irr_top.specs.Outcome.Serves.{serves}
+use Rattle.irr_top.specs.Outcome.OutcomeOf.{answered}
+use Rattle.irr_top.specs.declared.request.Request.{Request}
+use Rattle.irr_top.specs.declared.status.Status.{Status}
+use Rattle.irr_top.specs.declared.status.Status.TheVariants.{Done, Usage, ReadFault}
+use Rattle.irr_top.proofs.Outcomes.{ended_other, outcome_more, owed}
 use Rattle.irr_top.proofs.InputBytes.{some_bytes}
 use Rattle.irr_top.proofs.top.run.Goals as goal
 
-pub returns-in-Ok-clause-answered : goal.returns-in-Ok-clause-answered
-returns-in-Ok-clause-answered g c = outcome_answers _ _ _ _ _ _ _ _ _ _ _
-    (c.answer.ensures.outcome (texts c.args.words.now) c.in-Ok.ensures.requested)
-
-pub returns-in-Ok-clause-read_fault : goal.returns-in-Ok-clause-read_fault
-returns-in-Ok-clause-read_fault g c = outcome_read_fault _ _ _ _ _ _ _ _ _ _ _
-    (c.answer.ensures.outcome (texts c.args.words.now) c.in-Ok.ensures.requested)
-
-pub returns-in-Ok-clause-write_fault : goal.returns-in-Ok-clause-write_fault
-returns-in-Ok-clause-write_fault g c = outcome_write_fault _ _ _ _ _ _ _ _ _ _ _
-    (c.answer.ensures.outcome (texts c.args.words.now) c.in-Ok.ensures.requested)
-
-pub returns-in-Ok-clause-memory : goal.returns-in-Ok-clause-memory
-returns-in-Ok-clause-memory g c = outcome_memory _ _ _ _ _ _ _ _ _ _ _
-    (c.answer.ensures.outcome (texts c.args.words.now) c.in-Ok.ensures.requested)
-
-pub returns-in-Ok-clause-usage : goal.returns-in-Ok-clause-usage
-returns-in-Ok-clause-usage g c = outcome_usage _ _ _ _ _ _ _ _ _ _ _
-    (c.answer.ensures.outcome (texts c.args.words.now) c.in-Ok.ensures.requested)
-
-pub returns-in-Ok-clause-asked : goal.returns-in-Ok-clause-asked
-returns-in-Ok-clause-asked g c = outcome_asked _ _ _ _ _ _ _ _ _ _ _
-    (c.answer.ensures.outcome (texts c.args.words.now) c.in-Ok.ensures.requested)
-
-pub returns-in-Ok-clause-end : goal.returns-in-Ok-clause-end
-returns-in-Ok-clause-end g c = outcome_end _ _ _ _ _ _ _ _ _ _ _ (c.answer.ensures.outcome (texts c.args.words.now) c.in-Ok.ensures.requested)
+-- the words of a request
+asked : {words : List (List ℕ)} {source read : SourceView} {sink written : SinkView} {t : Status} (r : Request)
+    → IsRequested words r
+    → OutcomeOf (AsksOfBytes r) source read sink written t → Outcome words source read sink written t
+asked r is o = record { ends = outcome_more (λ bytes s text a. request r is a) o; read_for_a_command = λ e. (r, is) }
 
 -- faulty words, of which the input is not read
-refused : {words : List (List ℕ)} {n faults faulted : ℕ} {held holds : Option (List ℕ)} {wrote writes : Option ℕ} {t : Status}
-    (left : Option (List ℕ)) (read_faults : ℕ) → IsFaultyWord words n
-    → Ended (Usage n) (refusal_text (Usage n)) faults faulted held holds wrote writes t
-    → Outcome words left left read_faults read_faults faults faulted held holds wrote writes t
-refused {n = n} left read_faults f e = let b = some_bytes left in
-    served b.0 b.1 (record { status = Usage n; text = refusal_text (Usage n); asks = usage f; ended = e })
-    (λ d. absurd (ended_not_done e (λ k. cc) d))
+refused : {words : List (List ℕ)} {n : ℕ} {sink written : SinkView} {t : Status} (source : SourceView)
+    → IsFaultyWord words n
+    → Ended (Usage n) (refusal_text (Usage n)) sink written t → Outcome words source source sink written t
+refused source f e = let b = some_bytes source.left in record {
+  ends = answered b.0 b.1 (serves (faulty_word f) e) (λ d. absurd (ended_other Done e (λ k. cc) (λ k. cc) (λ k. cc) d));
+  read_for_a_command = λ d. absurd (ended_other ReadFault e (λ k. cc) (λ k. cc) (λ k. cc) d);
+}
 
-pub returns-in-Err-clause-answered : goal.returns-in-Err-clause-answered
-returns-in-Err-clause-answered g c = outcome_answers _ _ _ _ _ _ _ _ _ _ _
-    (refused (g.I.Source.left c.args.source.now) (g.I.Source.faults c.args.source.now) c.in-Err.ensures.faulty c.refuse.ensures)
+pub returns-in-Ok-clause-outcome : goal.returns-in-Ok-clause-outcome
+returns-in-Ok-clause-outcome g c = asked c.in-Ok.request c.in-Ok.ensures.requested c.answer.ensures.outcome
 
-pub returns-in-Err-clause-read_fault : goal.returns-in-Err-clause-read_fault
-returns-in-Err-clause-read_fault g c = outcome_read_fault _ _ _ _ _ _ _ _ _ _ _
-    (refused (g.I.Source.left c.args.source.now) (g.I.Source.faults c.args.source.now) c.in-Err.ensures.faulty c.refuse.ensures)
+pub returns-in-Ok-clause-asked : goal.returns-in-Ok-clause-asked
+returns-in-Ok-clause-asked g c = λ s. owed (texts c.args.words.now) (asked c.in-Ok.request c.in-Ok.ensures.requested c.answer.ensures.outcome)
 
-pub returns-in-Err-clause-write_fault : goal.returns-in-Err-clause-write_fault
-returns-in-Err-clause-write_fault g c = outcome_write_fault _ _ _ _ _ _ _ _ _ _ _
-    (refused (g.I.Source.left c.args.source.now) (g.I.Source.faults c.args.source.now) c.in-Err.ensures.faulty c.refuse.ensures)
-
-pub returns-in-Err-clause-memory : goal.returns-in-Err-clause-memory
-returns-in-Err-clause-memory g c = outcome_memory _ _ _ _ _ _ _ _ _ _ _
-    (refused (g.I.Source.left c.args.source.now) (g.I.Source.faults c.args.source.now) c.in-Err.ensures.faulty c.refuse.ensures)
-
-pub returns-in-Err-clause-usage : goal.returns-in-Err-clause-usage
-returns-in-Err-clause-usage g c = outcome_usage _ _ _ _ _ _ _ _ _ _ _
-    (refused (g.I.Source.left c.args.source.now) (g.I.Source.faults c.args.source.now) c.in-Err.ensures.faulty c.refuse.ensures)
+pub returns-in-Err-clause-outcome : goal.returns-in-Err-clause-outcome
+returns-in-Err-clause-outcome g c = refused (g.I.Source.view c.args.source.now) c.in-Err.ensures.faulty c.refuse.ensures
 
 pub returns-in-Err-clause-asked : goal.returns-in-Err-clause-asked
-returns-in-Err-clause-asked g c = outcome_asked _ _ _ _ _ _ _ _ _ _ _
-    (refused (g.I.Source.left c.args.source.now) (g.I.Source.faults c.args.source.now) c.in-Err.ensures.faulty c.refuse.ensures)
-
-pub returns-in-Err-clause-end : goal.returns-in-Err-clause-end
-returns-in-Err-clause-end g c = outcome_end _ _ _ _ _ _ _ _ _ _ _
-    (refused (g.I.Source.left c.args.source.now) (g.I.Source.faults c.args.source.now) c.in-Err.ensures.faulty c.refuse.ensures)
+returns-in-Err-clause-asked g c = λ s. owed (texts c.args.words.now)
+    (refused (g.I.Source.view c.args.source.now) c.in-Err.ensures.faulty c.refuse.ensures)

@@ -1,0 +1,19 @@
+-- Why there is no reply to a task.
+use Rattle.std.proofs.Common.{sym, subst, IfErr}
+use Rattle.irr_top.specs.GroupOf.{group_of}
+use Rattle.irr_top.specs.Answer.{IsNoReply}
+use Rattle.irr_top.specs.Task.{asked_by}
+use Rattle.irr_top.specs.declared.task.Task.{Task}
+use Rattle.irr_top.proofs.answer.reply_of.Goals as goal
+
+pub returns-in-Star-clause-none : goal.returns-in-Star-clause-none
+returns-in-Star-clause-none c = λ gens is. subst (λ (t : Task). IfErr c.star_reply.result (IsNoReply (asked_by t) (group_of gens)))
+    (sym c.in-Star.is) (c.star_reply.ensures.none gens is)
+
+pub returns-in-Small-clause-none : goal.returns-in-Small-clause-none
+returns-in-Small-clause-none c = λ gens is. subst (λ (t : Task). IfErr c.small_reply.result (IsNoReply (asked_by t) (group_of gens)))
+    (sym c.in-Small.is) (c.small_reply.ensures.none gens is)
+
+pub returns-in-Check-clause-none : goal.returns-in-Check-clause-none
+returns-in-Check-clause-none c = λ gens is. subst (λ (t : Task). IfErr c.check_reply.result (IsNoReply (asked_by t) (group_of gens)))
+    (sym c.in-Check.is) (c.check_reply.ensures.none gens is)

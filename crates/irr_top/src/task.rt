@@ -1,0 +1,45 @@
+// Requests with what they need of an input.
+ghost use Rattle.std.specs.Prelude.{◌≡◌, IfSome, IsNone, None, Some};
+ghost use Rattle.irr_input.specs.Command.{AreLimited};
+ghost use Rattle.irr_input.specs.InputLines.{content};
+ghost use Rattle.irr_report.specs.Limits.{IsWithinLimits as IsLimitedReport};
+ghost use Rattle.irr_top.specs.Request.{command_of};
+ghost use Rattle.irr_top.specs.Question.{question_of};
+ghost use Rattle.irr_top.specs.Task.{asked_by, IsLimited};
+
+use crate::request::Request;
+use irr_cyc::Dense;
+use irr_kvec::Wave;
+use irr_report::Report;
+
+/// The numbers that the program works with.
+pub(crate) type Number = Dense;
+
+/// What is asked for, with the section of the input that it needs.
+#[derive(Drop)]
+pub(crate) enum Task {
+    /// The star of a wave vector.
+    Star(Wave),
+    /// The small representations at a wave vector.
+    Small(Wave),
+    /// The verdict on a report.
+    Check(Report<Number>),
+}
+
+/// The request with the section that it needs, where the input has it.
+pub(crate) fn task_of(request: &Request, report: Option<Report<Number>>) -> Option<Task>
+    requires limits { AreLimited (command_of request.now) }
+    requires reports { IfSome report IsLimitedReport }
+    ensures some { IfSome result (λ task. question_of request.now (content report) ≡ Some (asked_by task)) }
+    ensures none { IsNone result → question_of request.now (content report) ≡ None }
+    ensures limits { IfSome result IsLimited }
+{
+    match request {
+        Request::Star(wave) => Some(Task::Star(*wave)),
+        Request::Small(wave) => Some(Task::Small(*wave)),
+        Request::Check => match report {
+            Some(report) => Some(Task::Check(report)),
+            None => None,
+        },
+    }
+}
