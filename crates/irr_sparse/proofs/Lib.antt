@@ -5,3 +5,6 @@ pub mod Lists
 pub mod Words
 pub mod Edits
 pub mod Powers
+pub mod Values
+pub mod Forms
+pub mod Rows

@@ -38,3 +38,7 @@ neg-ne-zero (pos (suc n)) ne e = false e
     false : negsuc n ≡ pos 0 → ⊥
     false e = let h : unsigned_abs (negsuc n) ≡ 0 = ap unsigned_abs e in omega arith
 neg-ne-zero (negsuc n) ne e = let h : unsigned_abs (neg_ℤ (negsuc n)) ≡ 0 = ap unsigned_abs e in omega arith
+
+pub product_fits : (a b : ℤ) → FitsSigned w128 a → FitsSigned w128 b → unsigned_abs a * unsigned_abs b < 2 ^ 127 → FitsSigned w128 (to_z w128 (of_z w128 a) *ℤ to_z w128 (of_z w128 b))
+product_fits a b fa fb h = subst (FitsSigned w128) (λ i. sym (to_z-of_z w128 a fa) i *ℤ sym (to_z-of_z w128 b fb) i)
+    (fits_signed_from_abs w128 (a *ℤ b) (let e : unsigned_abs (a *ℤ b) ≡ unsigned_abs a * unsigned_abs b = unsigned_abs-mul a b in omega arith))

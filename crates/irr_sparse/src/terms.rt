@@ -112,3 +112,33 @@ pub(crate) fn add_power(
     }
     Ok(())
 }
+
+/// Adds k z^s times the terms, with z^f for z: the cost of `add_power` for each term.
+pub(crate) fn add_row(
+    sums: &mut Vec<(u32, i128)>,
+    n: u32,
+    parts: &[Part],
+    times: i128,
+    shift: u32,
+    factor: u32,
+    terms: &[(u32, i128)],
+) -> Result<(), Memory>
+    requires few { n ≤ ORDER_LIMIT }
+    requires shift { shift < n }
+    requires inside { All (λ t. factor * t.0 < n) terms.now }
+    requires nonzero { times ≢ pos 0 }
+    requires each { All (λ t. t.1 ≢ pos 0) terms.now }
+    requires parts { AreParts n parts.now }
+    requires all { (j : ℕ) → IsFreeOutside n parts.now j }
+    requires terms { AreTerms n 0 sums.old.items }
+    requires small { total sums.old.items + unsigned_abs times * total terms.now * weight parts.now < 2 ^ 126 }
+    ensures terms { OnOk result (AreTerms n 0 sums.new.items) }
+    ensures sum { OnOk result (terms_sum n sums.new.items ≡ (numbers n).add (terms_sum n sums.old.items) (row_sum n times shift factor terms.now)) }
+    ensures total { OnOk result (total sums.new.items ≤ total sums.old.items + unsigned_abs times * total terms.now * weight parts.now) }
+{
+    for (exponent, coefficient) in terms {
+        let place = turned(shift, factor * *exponent, n);
+        add_power(sums, n, parts, place, times * *coefficient)?;
+    }
+    Ok(())
+}
