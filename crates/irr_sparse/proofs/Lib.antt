@@ -8,3 +8,5 @@ pub mod Powers
 pub mod Values
 pub mod Forms
 pub mod Rows
+pub mod Products
+pub mod Divisors

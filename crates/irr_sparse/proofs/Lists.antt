@@ -78,7 +78,6 @@ module _ (N : ℕ) (ts : List (ℕ × ℤ)) (k j : ℕ) (h : AreTerms N 0 ts) (b
   pub terms-remove : k < length ts → exponent_at ts k ≡ j → AreTerms N 0 (take k ts ++ drop (suc k) ts)
   terms-remove lt e = terms-front N 0 j k ts (drop (suc k) ts) h (λ i l li. before i l) (omega arith) (terms-lower N j (suc j) (drop (suc k) ts) (omega arith) (rest lt e))
 
-
 module _ (ts : List (ℕ × ℤ)) (k : ℕ) where
   both : total (take k ts) + total (drop k ts) ≡ total ts
   both = sum_by-take-drop (λ (t : ℕ × ℤ). unsigned_abs t.1) ts k

@@ -77,7 +77,7 @@ module _ (N p : ℕ) (hN : 0 < N) (hp : IsPrime p) (v : p ∣ N) where
   pub top-left : (j a : ℕ) → j < N → IsTop N p j → 0 < a → a < p → IsTop N p ((j + a * (N / p)) % N) → ⊥
   top-left j a lt s positive less t =
       let e : (j + a * (N / p)) % N ≡ j = top_unique N p hN hp v ((j + a * (N / p)) % N) j (Nat.mod-lt (j + a * (N / p)) hN) lt t s
-          (Nat.mod-mod_of_dvd (N / p) (j + a * (N / p)) step-divides ∙ Nat.add-mul-mod_self_right j a (N / p)) in
+      (Nat.mod-mod_of_dvd (N / p) (j + a * (N / p)) step-divides ∙ Nat.add-mul-mod_self_right j a (N / p)) in
       apart j a ((j + a * (N / p)) / N) (N / p) (Nat.mul-div_cancel' p v) positive less
       (ap (λ x. x + N * ((j + a * (N / p)) / N)) (sym e) ∙ Nat.mod-add-div (j + a * (N / p)) N)
 

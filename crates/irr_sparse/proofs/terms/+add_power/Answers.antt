@@ -21,7 +21,6 @@ use Rattle.irr_sparse.proofs.terms.+add_power.Goals as goal
 pub add_term-requires-clause-increasing : goal.add_term-requires-clause-increasing
 add_term-requires-clause-increasing m c = terms-increasing c.args.n 0 c.args.terms.now.items c.requires.terms
 
-
 positive : (j n : ℕ) → j < n → 0 < n
 positive j n h = omega arith
 
@@ -63,16 +62,27 @@ returns-then-is_empty-clause-total m c =
 
 pub add_power-requires : goal.add_power-requires
 add_power-requires m c =
-    let r : to_z w128 (of_z w128 c.args.coefficient) ≡ c.args.coefficient = small_read c.args.coefficient (total c.args.terms.now.items) (weight c.args.parts.now) (weight-pos c.args.n c.args.parts.now c.requires.parts) c.requires.small in
-    (
+    let r : to_z w128 (of_z w128 c.args.coefficient) ≡ c.args.coefficient = small_read c.args.coefficient (total c.args.terms.now.items) (weight c.args.parts.now) (weight-pos c.args.n c.args.parts.now c.requires.parts) c.requires.small in (
       (let less : length (take (length c.args.parts.now - 1) (drop 1 c.args.parts.now)) < length c.args.parts.now = omega (arith, ap length (first_part c.args.parts.now (record { prime = 0; base = 0 }) (some_parts (length c.args.parts.now) c.is_empty.result c.is_empty.ensures c.if-is_empty.false))) in search rules),
-      (c.requires.few,
-      (c.requires.inside,
-      (      (λ z. c.requires.nonzero (sym r ∙ z)),
-      (      rest_are c.args.n (positive c.args.exponent c.args.n c.requires.inside) c.args.parts.now (take (length c.args.parts.now - 1) (drop 1 c.args.parts.now)) (slice_index_or c.args.parts.now 0 (record { prime = 0; base = 0 })) (first_part c.args.parts.now (record { prime = 0; base = 0 }) (some_parts (length c.args.parts.now) c.is_empty.result c.is_empty.ensures c.if-is_empty.false)) c.requires.parts,
-      (rest_free c.args.n (positive c.args.exponent c.args.n c.requires.inside) c.args.parts.now (take (length c.args.parts.now - 1) (drop 1 c.args.parts.now)) (slice_index_or c.args.parts.now 0 (record { prime = 0; base = 0 })) (first_part c.args.parts.now (record { prime = 0; base = 0 }) (some_parts (length c.args.parts.now) c.is_empty.result c.is_empty.ensures c.if-is_empty.false)) c.requires.parts c.args.exponent c.requires.free c.if-exponent-part.true,
-      (c.requires.terms,
-      subst (λ x. total c.args.terms.now.items + unsigned_abs x * weight (take (length c.args.parts.now - 1) (drop 1 c.args.parts.now)) < 2 ^ 126) (sym r) (omega (arith, c.requires.small, skip_le c.args.n (positive c.args.exponent c.args.n c.requires.inside) c.args.parts.now (take (length c.args.parts.now - 1) (drop 1 c.args.parts.now)) (slice_index_or c.args.parts.now 0 (record { prime = 0; base = 0 })) (first_part c.args.parts.now (record { prime = 0; base = 0 }) (some_parts (length c.args.parts.now) c.is_empty.result c.is_empty.ensures c.if-is_empty.false)) c.requires.parts (unsigned_abs c.args.coefficient)))))))))
+      (
+        c.requires.few,
+        (
+          c.requires.inside,
+          (
+            (λ z. c.requires.nonzero (sym r ∙ z)),
+            (
+              rest_are c.args.n (positive c.args.exponent c.args.n c.requires.inside) c.args.parts.now (take (length c.args.parts.now - 1) (drop 1 c.args.parts.now)) (slice_index_or c.args.parts.now 0 (record { prime = 0; base = 0 })) (first_part c.args.parts.now (record { prime = 0; base = 0 }) (some_parts (length c.args.parts.now) c.is_empty.result c.is_empty.ensures c.if-is_empty.false)) c.requires.parts,
+              (
+                rest_free c.args.n (positive c.args.exponent c.args.n c.requires.inside) c.args.parts.now (take (length c.args.parts.now - 1) (drop 1 c.args.parts.now)) (slice_index_or c.args.parts.now 0 (record { prime = 0; base = 0 })) (first_part c.args.parts.now (record { prime = 0; base = 0 }) (some_parts (length c.args.parts.now) c.is_empty.result c.is_empty.ensures c.if-is_empty.false)) c.requires.parts c.args.exponent c.requires.free c.if-exponent-part.true,
+                (
+                  c.requires.terms,
+                  subst (λ x. total c.args.terms.now.items + unsigned_abs x * weight (take (length c.args.parts.now - 1) (drop 1 c.args.parts.now)) < 2 ^ 126) (sym r) (omega (arith, c.requires.small, skip_le c.args.n (positive c.args.exponent c.args.n c.requires.inside) c.args.parts.now (take (length c.args.parts.now - 1) (drop 1 c.args.parts.now)) (slice_index_or c.args.parts.now 0 (record { prime = 0; base = 0 })) (first_part c.args.parts.now (record { prime = 0; base = 0 }) (some_parts (length c.args.parts.now) c.is_empty.result c.is_empty.ensures c.if-is_empty.false)) c.requires.parts (unsigned_abs c.args.coefficient))),
+                ),
+              ),
+            ),
+          ),
+        ),
+      ),
     )
 
 pub returns-then-exponent-part-clause-total : goal.returns-then-exponent-part-clause-total
@@ -101,19 +111,30 @@ add_power-requires-in-loop-turns m c =
     let low : unsigned_abs c.args.coefficient < 2 ^ 126 = small c.args.coefficient (total c.args.terms.now.items) (weight c.args.parts.now) (weight-pos c.args.n c.args.parts.now c.requires.parts) c.requires.small in
     let r : to_z w128 (of_z w128 c.args.coefficient) ≡ c.args.coefficient = kept c.args.coefficient (omega (arith, low)) in
     let n : to_z w128 (of_z w128 (pos 0 -ℤ to_z w128 (of_z w128 c.args.coefficient))) ≡ neg_ℤ c.args.coefficient = neg_read c.args.coefficient low in
-    let size : unsigned_abs (to_z w128 (of_z w128 (pos 0 -ℤ to_z w128 (of_z w128 c.args.coefficient)))) ≡ unsigned_abs c.args.coefficient = ap unsigned_abs n ∙ unsigned_abs-neg c.args.coefficient in
-    (
+    let size : unsigned_abs (to_z w128 (of_z w128 (pos 0 -ℤ to_z w128 (of_z w128 c.args.coefficient)))) ≡ unsigned_abs c.args.coefficient = ap unsigned_abs n ∙ unsigned_abs-neg c.args.coefficient in (
       (let less : length (take (length c.args.parts.now - 1) (drop 1 c.args.parts.now)) < length c.args.parts.now = omega (arith, ap length (first_part c.args.parts.now (record { prime = 0; base = 0 }) (some_parts (length c.args.parts.now) c.is_empty.result c.is_empty.ensures c.if-is_empty.false))) in search rules),
-      (c.requires.few,
-      (c.turned-place.ensures.inside,
-      ((λ z. neg-ne-zero c.args.coefficient c.requires.nonzero (sym n ∙ z)),
-      (rest_are c.args.n (positive c.args.exponent c.args.n c.requires.inside) c.args.parts.now (take (length c.args.parts.now - 1) (drop 1 c.args.parts.now)) (slice_index_or c.args.parts.now 0 (record { prime = 0; base = 0 })) (first_part c.args.parts.now (record { prime = 0; base = 0 }) (some_parts (length c.args.parts.now) c.is_empty.result c.is_empty.ensures c.if-is_empty.false)) c.requires.parts,
-      (subst (IsFreeOutside c.args.n (take (length c.args.parts.now - 1) (drop 1 c.args.parts.now))) (sym c.turned-place.ensures.value)
-      (turn_free c.args.n (positive c.args.exponent c.args.n c.requires.inside) c.args.parts.now (take (length c.args.parts.now - 1) (drop 1 c.args.parts.now)) (slice_index_or c.args.parts.now 0 (record { prime = 0; base = 0 })) (first_part c.args.parts.now (record { prime = 0; base = 0 }) (some_parts (length c.args.parts.now) c.is_empty.result c.is_empty.ensures c.if-is_empty.false)) c.requires.parts c.args.exponent c.loop-turns.turns c.requires.inside c.requires.free c.if-exponent-part.false (omega (arith, c.loop-turns.auto.turns)) c.loop-turns-test.true),
-      (c.loop-turns.invariant.terms,
-      subst (λ k. total c.loop-turns.terms.items + k * weight (take (length c.args.parts.now - 1) (drop 1 c.args.parts.now)) < 2 ^ 126) (sym size)
-      (turn_small c.args.n (positive c.args.exponent c.args.n c.requires.inside) c.args.parts.now (take (length c.args.parts.now - 1) (drop 1 c.args.parts.now)) (slice_index_or c.args.parts.now 0 (record { prime = 0; base = 0 })) (first_part c.args.parts.now (record { prime = 0; base = 0 }) (some_parts (length c.args.parts.now) c.is_empty.result c.is_empty.ensures c.if-is_empty.false)) c.requires.parts (total c.args.terms.now.items) (total c.loop-turns.terms.items) (unsigned_abs c.args.coefficient) c.loop-turns.turns (2 ^ 126) c.loop-turns-test.true c.loop-turns.auto.turns
-      (subst (λ x. total c.loop-turns.terms.items ≤ total c.args.terms.now.items + unsigned_abs x * weight (take (length c.args.parts.now - 1) (drop 1 c.args.parts.now)) * (c.loop-turns.turns - 1)) r c.loop-turns.invariant.most) c.requires.small)))))))
+      (
+        c.requires.few,
+        (
+          c.turned-place.ensures.inside,
+          (
+            (λ z. neg-ne-zero c.args.coefficient c.requires.nonzero (sym n ∙ z)),
+            (
+              rest_are c.args.n (positive c.args.exponent c.args.n c.requires.inside) c.args.parts.now (take (length c.args.parts.now - 1) (drop 1 c.args.parts.now)) (slice_index_or c.args.parts.now 0 (record { prime = 0; base = 0 })) (first_part c.args.parts.now (record { prime = 0; base = 0 }) (some_parts (length c.args.parts.now) c.is_empty.result c.is_empty.ensures c.if-is_empty.false)) c.requires.parts,
+              (
+                subst (IsFreeOutside c.args.n (take (length c.args.parts.now - 1) (drop 1 c.args.parts.now))) (sym c.turned-place.ensures.value)
+                    (turn_free c.args.n (positive c.args.exponent c.args.n c.requires.inside) c.args.parts.now (take (length c.args.parts.now - 1) (drop 1 c.args.parts.now)) (slice_index_or c.args.parts.now 0 (record { prime = 0; base = 0 })) (first_part c.args.parts.now (record { prime = 0; base = 0 }) (some_parts (length c.args.parts.now) c.is_empty.result c.is_empty.ensures c.if-is_empty.false)) c.requires.parts c.args.exponent c.loop-turns.turns c.requires.inside c.requires.free c.if-exponent-part.false (omega (arith, c.loop-turns.auto.turns)) c.loop-turns-test.true),
+                (
+                  c.loop-turns.invariant.terms,
+                  subst (λ k. total c.loop-turns.terms.items + k * weight (take (length c.args.parts.now - 1) (drop 1 c.args.parts.now)) < 2 ^ 126) (sym size)
+                      (turn_small c.args.n (positive c.args.exponent c.args.n c.requires.inside) c.args.parts.now (take (length c.args.parts.now - 1) (drop 1 c.args.parts.now)) (slice_index_or c.args.parts.now 0 (record { prime = 0; base = 0 })) (first_part c.args.parts.now (record { prime = 0; base = 0 }) (some_parts (length c.args.parts.now) c.is_empty.result c.is_empty.ensures c.if-is_empty.false)) c.requires.parts (total c.args.terms.now.items) (total c.loop-turns.terms.items) (unsigned_abs c.args.coefficient) c.loop-turns.turns (2 ^ 126) c.loop-turns-test.true c.loop-turns.auto.turns
+                      (subst (λ x. total c.loop-turns.terms.items ≤ total c.args.terms.now.items + unsigned_abs x * weight (take (length c.args.parts.now - 1) (drop 1 c.args.parts.now)) * (c.loop-turns.turns - 1)) r c.loop-turns.invariant.most) c.requires.small),
+                ),
+              ),
+            ),
+          ),
+        ),
+      ),
     )
 
 pub loop-turns-preserved : goal.loop-turns-preserved
