@@ -3,7 +3,7 @@
 --   divisor-start, divisor-step, divisor-one    one coefficient after another
 --   divided                the terms over a divisor
 --   divided-terms, divided-lowest, divided-value    what is kept
-use Rattle.std.proofs.Common.{◌≡◌, ◌≢◌, refl, sym, ◌∙◌, ap, ap₂, subst, ℕ, ℤ, zero, suc, pos, ◌+◌, ◌*◌, ◌/◌, ◌%◌, ◌<◌, ◌≤◌, ◌*ℤ◌, inl, inr, List, [], ◌∷◌, map, length, unsigned_abs, int_div, arith}
+use Rattle.std.proofs.Common.{◌≡◌, refl, sym, ◌∙◌, ap, ap₂, subst, ℕ, ℤ, zero, suc, pos, ◌+◌, ◌*◌, ◌/◌, ◌%◌, ◌<◌, ◌≤◌, ◌*ℤ◌, inl, inr, List, [], ◌∷◌, map, length, unsigned_abs, int_div, arith}
 use Rattle.std.proofs.lemmas.Bool.{cases_lt}
 use Rattle.std.proofs.lemmas.Int.{unsigned_abs-mul}
 use Rattle.std.proofs.lemmas.Nat.Gcd.{IsGcd-from_mod}
@@ -13,7 +13,7 @@ use Rattle.irr_algebra.specs.Ring.{Ring, whole}
 use Rattle.irr_algebra.proofs.Rings.{mul-zero, ring_laws}
 use Rattle.irr_algebra.proofs.Whole.{whole-mul}
 use Rattle.irr_number.specs.Integers.{integers}
-use Rattle.irr_number.specs.Number.{Number, numbers, root_power}
+use Rattle.irr_number.specs.Number.{numbers, root_power}
 use Rattle.irr_number.proofs.Primes.{divisor_pos}
 use Rattle.irr_rational.specs.Integer.{integer}
 use Rattle.irr_rational.proofs.Integers.{integer-mul, integer-pos}

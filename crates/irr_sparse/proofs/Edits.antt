@@ -2,9 +2,8 @@
 --   IsPlace ts k j       the first k exponents are below j, and the others are not
 --   Added ts us j c      us are the terms ts with c z^j added
 --   added-push, added-insert, added-remove, added-set     by the four ways to add it
-use Rattle.std.proofs.Common.{◌≡◌, ◌≢◌, refl, sym, ◌∙◌, ap, subst, ℕ, ℤ, suc, pos, ◌+◌, ◌<◌, ◌≤◌, ◌+ℤ◌, List, [], ◌∷◌, ◌++◌, take, drop, length, slice_set, slice_index_or, unsigned_abs, arith}
+use Rattle.std.proofs.Common.{◌≡◌, ◌≢◌, sym, ◌∙◌, ap, subst, ℕ, ℤ, suc, pos, ◌+◌, ◌<◌, ◌≤◌, ◌+ℤ◌, List, [], ◌∷◌, ◌++◌, take, drop, length, slice_set, slice_index_or, unsigned_abs, arith}
 use Rattle.std.proofs.lemmas.List.{drop_all, get_or_read, set_split, take_all}
-use native.Mathlib.Nat as Nat
 use Rattle.irr_number.specs.Number.{numbers}
 use Rattle.irr_cyc.specs.Terms.{terms_sum}
 use Rattle.irr_sparse.specs.TermList.{AreTerms, IsTerm, coefficient_at, exponent_at, total}

@@ -2,8 +2,8 @@
 --   form-denominator, form-size, form-terms    what is read off it
 --   same-terms           one number has one form
 --   zero-terms           0 has no terms
-use Rattle.std.proofs.Common.{◌≡◌, ◌≢◌, refl, sym, ◌∙◌, ap, ap₂, subst, ℕ, ℤ, zero, suc, pos, negsuc, ◌+◌, ◌*◌, ◌<◌, ◌≤◌, ◌+ℤ◌, ◌*ℤ◌, List, [], ◌∷◌, ◌++◌, length, unsigned_abs, sum_by, append_assoc, append-nil, arith}
-use Rattle.std.proofs.lemmas.List.Sums.{sum_by-append, sum_by-cons}
+use Rattle.std.proofs.Common.{◌≡◌, ◌≢◌, refl, sym, ◌∙◌, ap, ap₂, subst, ℕ, ℤ, zero, suc, pos, negsuc, ◌+◌, ◌<◌, ◌≤◌, ◌+ℤ◌, ◌*ℤ◌, List, [], ◌∷◌, ◌++◌, length, unsigned_abs, append_assoc, append-nil, arith}
+use Rattle.std.proofs.lemmas.List.Sums.{sum_by-append}
 use Rattle.std.specs.Int.{◌∣◌}
 use native.Mathlib.Decide.{ℕ_discrete}
 use native.Mathlib.Nat as Nat
@@ -11,10 +11,10 @@ use Rattle.irr_algebra.specs.Ring.{Ring}
 use Rattle.irr_algebra.proofs.Rings.{ring_laws}
 use Rattle.irr_number.specs.Algebra.{at-element}
 use Rattle.irr_number.specs.Basis.{InBasis, IsCanonical}
-use Rattle.irr_number.specs.Element.{Element, delta, element}
+use Rattle.irr_number.specs.Element.{Element, element}
 use Rattle.irr_number.specs.Fraction.{Fraction}
 use Rattle.irr_number.specs.Integers.{integers}
-use Rattle.irr_number.specs.Number.{number, numbers}
+use Rattle.irr_number.specs.Number.{numbers}
 use Rattle.irr_number.specs.SumLaws.{delta-other, delta-same}
 use Rattle.irr_canonical.specs.Coefficient.{canonical, denominator, over, size, total_below}
 use Rattle.irr_canonical.proofs.Forms.{canonical-number}
@@ -23,7 +23,7 @@ use Rattle.irr_cyc.specs.Terms.{nonzero_terms, term, terms_at}
 use Rattle.irr_cyc.proofs.Divisors.{one_of_dvd}
 use Rattle.irr_sparse.specs.TermList.{AreTerms, IsLowest, IsTerm, coefficient_at, exponent_at, total}
 use Rattle.irr_sparse.specs.Value.{value_of}
-use Rattle.irr_sparse.proofs.Lists.{term-lower, terms-at, terms-cons, terms-head, terms-none, terms-tail}
+use Rattle.irr_sparse.proofs.Lists.{terms-at, terms-cons, terms-head, terms-none, terms-tail}
 use Rattle.irr_sparse.proofs.Values.{value-none, value-over}
 
 -- a term at another exponent adds nothing

@@ -10,3 +10,5 @@ pub mod Forms
 pub mod Rows
 pub mod Products
 pub mod Divisors
+pub mod Arithmetic
+pub mod FormsOf

@@ -4,16 +4,14 @@
 --   turn_below             less than p times N/p is below N
 --   turns-start, turns-next, turns-end    the sums over the turns
 --   skip_small, turn_small, turns_most    sizes
-use Rattle.std.proofs.Common.{◌≡◌, ◌≢◌, refl, sym, ◌∙◌, ap, ap₂, subst, ℕ, ℤ, pos, ◌+◌, ◌*◌, ◌-◌, ◌/◌, ◌%◌, ◌^◌, ◌<◌, ◌≤◌, neg_ℤ, List, [], ◌∷◌, take, drop, length, slice_index_or, unsigned_abs, inl, inr, All, arith}
+use Rattle.std.proofs.Common.{◌≡◌, ◌≢◌, sym, ◌∙◌, ap, ap₂, subst, ℕ, ℤ, pos, ◌+◌, ◌*◌, ◌-◌, ◌/◌, ◌%◌, ◌<◌, ◌≤◌, neg_ℤ, List, [], ◌∷◌, take, drop, length, slice_index_or, inl, inr, arith}
 use Rattle.std.proofs.lemmas.Bool.{cases_lt}
 use Rattle.std.proofs.lemmas.List.{drop_more, nil_from_length, take_rest}
 use Rattle.std.proofs.lemmas.List.Elements.{All-head, All-tail}
-use Rattle.std.specs.Int.{◌∣◌}
 use native.Mathlib.Nat as Nat
 use Rattle.irr_algebra.specs.Ring.{Ring}
 use Rattle.irr_algebra.proofs.Rings.{ring_laws}
 use Rattle.irr_number.specs.Number.{Number, numbers, root_power}
-use Rattle.irr_number.specs.Prime.{IsPrime}
 use Rattle.irr_rational.specs.Integer.{integer}
 use Rattle.irr_rational.proofs.Integers.{integer-neg}
 use Rattle.irr_cyc.specs.Part.{IsPart}

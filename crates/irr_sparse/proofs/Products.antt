@@ -3,11 +3,12 @@
 --   product-start, product-next, product-end    one row after another
 --   terms-scaled, total-scaled            multiples
 --   combined-next, combined-end           combinations
-use Rattle.std.proofs.Common.{◌≡◌, ◌≢◌, refl, sym, ◌∙◌, ap, ap₂, subst, ℕ, ℤ, suc, pos, ◌+◌, ◌*◌, ◌^◌, ◌<◌, ◌≤◌, ◌*ℤ◌, List, [], ◌∷◌, ◌++◌, take, map, length, unsigned_abs, sum_by, All, arith}
+use Rattle.std.proofs.Common.{◌≡◌, ◌≢◌, sym, ◌∙◌, ap, ap₂, ℕ, ℤ, suc, pos, ◌+◌, ◌*◌, ◌^◌, ◌<◌, ◌≤◌, ◌*ℤ◌, List, [], ◌∷◌, ◌++◌, take, drop, map, length, unsigned_abs, All, arith}
 use Rattle.std.proofs.lemmas.Int.{unsigned_abs-mul}
 use Rattle.std.proofs.lemmas.List.{take_all, take_more}
 use Rattle.std.proofs.lemmas.List.Elements.{All-from_get_or, All-weaker}
 use Rattle.std.proofs.lemmas.List.Sums.{get_or-le-sum_by, sum_by-cons, sum_by-take-le, sum_by_more}
+use Rattle.std.proofs.Math.Seq.{take-append_seam}
 use native.Mathlib.Nat as Nat
 use Rattle.irr_algebra.specs.Ring.{Ring}
 use Rattle.irr_algebra.proofs.Rings.{one-mul, ring_laws, zero-add, zero-mul}
@@ -131,3 +132,7 @@ collected-next n ts now new i k lt e h g = g ∙ ap₂ (numbers n).add h (ap (te
 
 pub collected-end : (n : ℕ) (ts : List (ℕ × ℤ)) (i : ℕ) → length ts ≤ i → terms_sum n (take i ts) ≡ terms_sum n ts
 collected-end n ts i le = ap (terms_sum n) (take_all i ts le)
+
+-- a vector whose slice was written holds what was written
+pub written-terms : (items new : List (ℕ × ℤ)) (count : ℕ) → length new ≡ count → take count (new ++ drop (length new) items) ≡ new
+written-terms items new count e = ap (λ n. take n (new ++ drop (length new) items)) (sym e) ∙ take-append_seam new (drop (length new) items)

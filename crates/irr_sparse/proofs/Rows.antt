@@ -1,16 +1,13 @@
 -- Rows of terms, one term after another.
 --   row-start, row-next, row-end    the sums
 --   most-next, small-next, product-small    the sizes
-use Rattle.std.proofs.Common.{◌≡◌, ◌≢◌, refl, sym, ◌∙◌, ap, ap₂, subst, ℕ, ℤ, pos, negsuc, ◌+◌, ◌*◌, ◌%◌, ◌^◌, ◌<◌, ◌≤◌, ◌*ℤ◌, List, take, length, slice_index_or, unsigned_abs, sum_by, arith}
+use Rattle.std.proofs.Common.{◌≡◌, ◌≢◌, sym, ◌∙◌, ap, ap₂, ℕ, ℤ, pos, negsuc, ◌+◌, ◌*◌, ◌%◌, ◌<◌, ◌≤◌, ◌*ℤ◌, List, take, length, unsigned_abs, arith}
 use Rattle.std.proofs.lemmas.Int.{unsigned_abs-mul}
 use Rattle.std.proofs.lemmas.List.{take_all, take_more}
 use Rattle.std.proofs.lemmas.List.Sums.{get_or-le-sum_by, sum_by-take-le, sum_by_more}
 use native.Mathlib.Nat as Nat
-use Rattle.irr_algebra.specs.Ring.{Ring}
-use Rattle.irr_number.specs.Integers.{integers}
 use Rattle.irr_number.specs.Number.{Number, numbers, root_power}
 use Rattle.irr_number.proofs.RootPowers.{root_power-mod}
-use Rattle.irr_number.proofs.WholeNumbers.{whole_cancel}
 use Rattle.irr_rational.specs.Integer.{integer}
 use Rattle.irr_sparse.specs.TermList.{coefficient_at, exponent_at, row_sum, total}
 use Rattle.irr_sparse.proofs.Sums.{row-more, row-none, term_value}

@@ -2,7 +2,7 @@
 --   no_prime_below         a number without prime divisors below the square root has none but itself
 --   Listed N parts p rest  the primes below p are listed, and rest is N without them
 --   listed-start, listed-room, listed-next, listed-end    at the start, that there is room, one prime more, in the end
-use Rattle.std.proofs.Common.{◌≡◌, ◌≢◌, refl, sym, ◌∙◌, ap, subst, ℕ, suc, pos, ◌+◌, ◌*◌, ◌/◌, ◌%◌, ◌^◌, ◌<◌, ◌≤◌, inl, inr, List, [], ◌∷◌, ◌++◌, length, All, arith, length-append, add-one}
+use Rattle.std.proofs.Common.{◌≡◌, ◌≢◌, refl, sym, ◌∙◌, ap, subst, ℕ, pos, ◌+◌, ◌*◌, ◌%◌, ◌^◌, ◌<◌, ◌≤◌, inl, inr, List, [], ◌∷◌, ◌++◌, length, All, arith, add-one}
 use Rattle.std.proofs.lemmas.Bool.{cases_lt}
 use Rattle.std.proofs.lemmas.List.{get_or_append_left, get_or_push, length_push}
 use Rattle.std.proofs.lemmas.List.Elements.{All-nil, All-push, All-from_get_or, All-get_or}
@@ -11,7 +11,6 @@ use native.Mathlib.Decide.{ℕ_discrete}
 use native.Mathlib.Nat as Nat
 use Rattle.irr_number.specs.Prime.{IsPrime}
 use Rattle.irr_number.proofs.Primes.{cofactor, prime_divisor, prime_dvd-mul}
-use Rattle.irr_canonical.specs.Reduction.{IsTop}
 use Rattle.irr_canonical.proofs.Reductions.{divides_of_IsTop}
 use Rattle.irr_cyc.specs.Part.{IsPart}
 use Rattle.irr_cyc.proofs.Factors.{Reached, reached-part, reached-pass, reached-start, rest-le}

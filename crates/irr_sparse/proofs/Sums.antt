@@ -2,7 +2,7 @@
 --   sum-append, sum-insert, sum-set, sum-remove    lists with one more term
 --   row-append, row-product, row-lift, row-all     rows of products and lifts
 --   sum-scaled                                     each coefficient times a whole number
-use Rattle.std.proofs.Common.{◌≡◌, refl, sym, ◌∙◌, ap, ap₂, subst, ℕ, ℤ, suc, pos, ◌+◌, ◌*◌, ◌/◌, ◌%◌, ◌<◌, ◌≤◌, ◌+ℤ◌, ◌*ℤ◌, List, [], ◌∷◌, ◌++◌, take, drop, map, length, arith}
+use Rattle.std.proofs.Common.{◌≡◌, refl, sym, ◌∙◌, ap, ap₂, ℕ, ℤ, suc, pos, ◌+◌, ◌*◌, ◌/◌, ◌<◌, ◌+ℤ◌, ◌*ℤ◌, List, [], ◌∷◌, ◌++◌, take, drop, map, length}
 use Rattle.std.proofs.lemmas.List.{take-append-drop}
 use lib.Seq.{drop-cons}
 use Rattle.std.specs.Int.{◌∣◌}
@@ -14,9 +14,9 @@ use Rattle.irr_number.specs.Integers.{integers}
 use Rattle.irr_number.specs.Lift.{lift}
 use Rattle.irr_number.specs.Number.{Number, numbers, root_power}
 use Rattle.irr_number.proofs.Lifts.{lift-root_power}
-use Rattle.irr_number.proofs.RootPowers.{root_power-mul, root_power-zero}
+use Rattle.irr_number.proofs.RootPowers.{root_power-mul}
 use Rattle.irr_rational.specs.Integer.{integer}
-use Rattle.irr_rational.proofs.Integers.{integer-add, integer-mul, integer-one, integer-zero, map-integer}
+use Rattle.irr_rational.proofs.Integers.{integer-add, integer-mul, integer-zero, map-integer}
 use Rattle.irr_cyc.specs.Terms.{terms_sum}
 use Rattle.irr_sparse.specs.TermList.{coefficient_at, exponent_at, row_sum}
 

@@ -2,15 +2,14 @@
 --   top-other, top-left    adding N/p keeps the digit at other primes, and takes a top power of p from the top
 --   free_skip, free_turn, in_basis_of_free    what is free outside a list, one prime further on, and in the end
 --   turn_sum               a top power is the negative of the others of its class
-use Rattle.std.proofs.Common.{◌≡◌, ◌≢◌, refl, sym, ◌∙◌, ap, subst, ℕ, suc, ◌+◌, ◌*◌, ◌-◌, ◌/◌, ◌%◌, ◌^◌, ◌<◌, ◌≤◌, inl, inr, List, [], ◌∷◌, All, arith}
+use Rattle.std.proofs.Common.{◌≡◌, ◌≢◌, refl, sym, ◌∙◌, ap, subst, ℕ, suc, ◌+◌, ◌*◌, ◌-◌, ◌/◌, ◌%◌, ◌^◌, ◌<◌, ◌≤◌, inl, inr, List, [], ◌∷◌, arith}
 use Rattle.std.proofs.lemmas.Bool.{cases_lt}
 use Rattle.std.proofs.lemmas.List.Elements.{All-cons, All-nil}
 use Rattle.std.specs.Int.{◌∣◌}
 use native.Mathlib.Decide.{ℕ_discrete}
 use native.Mathlib.Nat as Nat
 use Rattle.irr_algebra.specs.Listed.{sum_below}
-use Rattle.irr_algebra.specs.Ring.{Ring}
-use Rattle.irr_algebra.proofs.Rings.{eq-neg_of_add-zero, mul-neg, mul-zero, one-mul, neg-mul}
+use Rattle.irr_algebra.proofs.Rings.{eq-neg_of_add-zero, mul-zero}
 use Rattle.irr_number.specs.Basis.{InBasis}
 use Rattle.irr_number.specs.Number.{Number, numbers, root_power}
 use Rattle.irr_number.specs.Prime.{IsPrime}

@@ -2,11 +2,11 @@
 --   value-mul            the denominator times the number is the sum of the terms
 --   value-is             a number with that product is the number
 --   value-same           terms with equal cross products are one number
-use Rattle.std.proofs.Common.{◌≡◌, refl, sym, ◌∙◌, ap, ap₂, ℕ, ℤ, zero, suc, pos, ◌*◌, ◌%◌, ◌<◌, ◌≤◌, ◌+ℤ◌, ◌*ℤ◌, List, [], ◌∷◌, length, All, arith}
+use Rattle.std.proofs.Common.{◌≡◌, refl, sym, ◌∙◌, ap, ap₂, ℕ, ℤ, zero, suc, pos, ◌<◌, ◌*ℤ◌, List, [], ◌∷◌, All, arith}
 use Rattle.std.proofs.lemmas.List.Elements.{All-from_get_or, All-head, All-tail}
 use native.Mathlib.Bridge.{le_prop}
 use native.Mathlib.Nat as Nat
-use Rattle.irr_algebra.specs.Ring.{Ring, whole}
+use Rattle.irr_algebra.specs.Ring.{whole}
 use Rattle.irr_algebra.proofs.Rings.{mul_left_comm}
 use Rattle.irr_number.specs.Algebra.{algebra, at-element, at-power}
 use Rattle.irr_number.specs.Element.{delta, element, multiple, power}

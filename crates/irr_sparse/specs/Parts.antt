@@ -2,7 +2,7 @@
 --   AreParts N xs            each is a prime divisor of N with its power, over the prime
 --   IsFreeOutside N xs j     z^j is no top power of a prime that is not listed
 --   weight xs                the product of the primes
-use Rattle.std.specs.Prelude.{ℕ, suc, zero, ◌≡◌, ◌≢◌, ◌*◌, List, [], ◌∷◌, All}
+use Rattle.std.specs.Prelude.{ℕ, ◌≢◌, ◌*◌, List, [], ◌∷◌, All}
 use Rattle.irr_number.specs.Prime.{IsPrime}
 use Rattle.irr_canonical.specs.Reduction.{IsTop}
 use Rattle.irr_cyc.specs.Part.{IsPart}

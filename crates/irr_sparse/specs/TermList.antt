@@ -6,7 +6,7 @@
 --   total ts             the sum of the absolute coefficients
 --   IsLowest ts d        only 1 divides d and each coefficient
 --   row_sum N k s f ts   the terms of ts, each times k z^s, with z^f for z
-use Rattle.std.specs.Prelude.{ℕ, ℤ, suc, pos, ◌≡◌, ◌≢◌, ◌<◌, ◌≤◌, ◌+◌, ◌*◌, ◌*ℤ◌, List, [], ◌∷◌, length, slice_index_or, All, sum_by, ⊤}
+use Rattle.std.specs.Prelude.{ℕ, ℤ, suc, pos, ◌≡◌, ◌≢◌, ◌<◌, ◌≤◌, ◌+◌, ◌*◌, ◌*ℤ◌, List, [], ◌∷◌, length, slice_index_or, sum_by, ⊤}
 use Rattle.std.specs.Int.{◌∣◌}
 use Rattle.std.specs.Int.RustNames.{unsigned_abs}
 use Rattle.std.specs.Coded.{×_prop, Unit-prop, le_prop}

@@ -6,6 +6,7 @@ ghost use Rattle.irr_sparse.specs.Value.{value_of};
 
 use crate::combinations::{collected, combination, moved, power, product, scaled};
 use crate::lowest::to_lowest_terms;
+use crate::terms::are_same;
 use irr_cyc::{Canon, Lift, Memory, ORDER_LIMIT, Order, Scalar};
 use std::alloc::Global;
 
@@ -157,7 +158,7 @@ impl Scalar for Sparse {
         if self.den != other.den {
             return false;
         }
-        self.terms.as_slice() == other.terms.as_slice()
+        are_same(self.terms.as_slice(), other.terms.as_slice())
     }
 
     /// One allocation.

@@ -1,5 +1,5 @@
 //! Lists of terms (j, c) for c z^j, by increasing exponents.
-ghost use Rattle.std.specs.Prelude.{ℕ, ℤ, pos, ◌≡◌, ◌≢◌, ◌+◌, ◌*◌, ◌%◌, ◌^◌, ◌<◌, ◌≤◌, ◌+ℤ◌, ◌*ℤ◌, length, All, OnOk};
+ghost use Rattle.std.specs.Prelude.{ℕ, ℤ, pos, ◌≡◌, ◌≢◌, ◌+◌, ◌*◌, ◌%◌, ◌^◌, ◌<◌, ◌≤◌, ◌+ℤ◌, ◌*ℤ◌, length, All, OnOk, IsTrue, ◌↔◌};
 ghost use Rattle.std.specs.Int.RustNames.{unsigned_abs};
 ghost use Rattle.irr_number.specs.Number.{numbers, root_power};
 ghost use Rattle.irr_rational.specs.Integer.{integer};
@@ -11,6 +11,24 @@ ghost use Rattle.irr_sparse.specs.Parts.{AreParts, IsFreeOutside, weight};
 use crate::parts::Part;
 use irr_cyc::{Memory, ORDER_LIMIT};
 use std::alloc::Global;
+
+/// Whether two lists are the same, term by term. No memory is needed.
+pub(crate) fn are_same(xs: &[(u32, i128)], ys: &[(u32, i128)]) -> bool
+    ensures { IsTrue result ↔ (xs.now ≡ ys.now) }
+{
+    if xs.len() != ys.len() {
+        return false;
+    }
+    for i in 0..xs.len() {
+        if xs[i].0 != ys[i].0 {
+            return false;
+        }
+        if xs[i].1 != ys[i].1 {
+            return false;
+        }
+    }
+    true
+}
 
 // How many terms have exponents below the one given: the place of its term, in as many steps as the length has bits.
 fn place_of(terms: &[(u32, i128)], exponent: u32) -> usize

@@ -1,5 +1,5 @@
 -- A coefficient 0 adds nothing.
-use Rattle.std.proofs.Common.{rules, ◌≡◌, sym, ◌∙◌, ap, ℤ, pos, FitsSigned, to_z, of_z}
+use Rattle.std.proofs.Common.{rules, ◌≡◌, sym, ◌∙◌, ap, pos, FitsSigned, to_z}
 use Rattle.std.proofs.lemmas.Int.{to_z-of_z}
 use mir.Syntax.{w64}
 use Rattle.irr_number.specs.Number.{numbers}

@@ -1,15 +1,13 @@
 -- One term more.
-use Rattle.std.proofs.Common.{rules, ◌≡◌, sym, ◌∙◌, ap, subst, ℕ, ℤ, pos, ◌+◌, ◌*◌, ◌<◌, ◌≤◌, ◌^◌, List, [], take, length, unsigned_abs, FitsSigned, to_z, of_z, arith}
+use Rattle.std.proofs.Common.{rules, ◌≡◌, sym, ◌∙◌, ap, subst, ℕ, ℤ, ◌+◌, ◌*◌, ◌<◌, ◌≤◌, ◌^◌, List, [], unsigned_abs, FitsSigned, to_z, of_z, arith}
 use Rattle.std.proofs.lemmas.Int.{to_z-of_z}
 use mir.Syntax.{w64}
-use Rattle.irr_number.specs.Number.{numbers}
 use Rattle.irr_cyc.specs.Terms.{terms_sum}
 use Rattle.irr_sparse.specs.Parts.{IsFreeOutside, weight}
-use Rattle.irr_sparse.specs.TermList.{AreTerms, coefficient_at, exponent_at, total}
+use Rattle.irr_sparse.specs.TermList.{AreTerms, coefficient_at, total}
 use Rattle.irr_sparse.specs.declared.parts.Part.{Part}
 use Rattle.irr_sparse.proofs.Lists.{terms-none}
 use Rattle.irr_sparse.proofs.Products.{collected-end, collected-most, collected-next, collected-small}
-use Rattle.irr_sparse.proofs.Sums.{term_value}
 use Rattle.irr_sparse.proofs.combinations.collected.Goals as goal
 
 nothing : (ts : List (ℕ × ℤ)) (k : ℕ) → ts ≡ [] → total ts ≤ k

@@ -1,6 +1,5 @@
 -- The terms so far are added.
-use Rattle.std.proofs.Common.{◌≡◌, ◌*◌, ◌≤◌, take, sum_by}
-use Rattle.std.specs.Int.RustNames.{unsigned_abs}
+use Rattle.std.proofs.Common.{◌≡◌, ◌*◌, ◌≤◌, take}
 use Rattle.irr_cyc.specs.Terms.{terms_sum}
 use Rattle.irr_sparse.specs.TermList.{AreTerms, total}
 use Rattle.irr_sparse.specs.Parts.{weight}

@@ -1,5 +1,5 @@
 -- One term on the right more.
-use Rattle.std.proofs.Common.{rules, ◌≡◌, ◌≢◌, sym, ◌∙◌, ap, subst, ℕ, ℤ, pos, ◌+◌, ◌*◌, ◌<◌, ◌≤◌, ◌^◌, ◌*ℤ◌, List, take, map, length, unsigned_abs, FitsSigned, to_z, of_z, arith}
+use Rattle.std.proofs.Common.{rules, ◌≡◌, ◌≢◌, sym, ◌∙◌, ap, subst, ℕ, ℤ, pos, ◌+◌, ◌*◌, ◌<◌, ◌≤◌, ◌^◌, ◌*ℤ◌, List, take, map, unsigned_abs, FitsSigned, to_z, of_z, arith}
 use Rattle.std.proofs.lemmas.Int.{to_z-of_z, unsigned_abs-mul}
 use Rattle.std.proofs.lemmas.List.{take_all}
 use mir.Syntax.{w128}
@@ -9,7 +9,7 @@ use Rattle.irr_cyc.specs.Terms.{terms_sum}
 use Rattle.irr_sparse.specs.TermList.{AreTerms, IsTerm, coefficient_at, exponent_at, total}
 use Rattle.irr_sparse.proofs.Lists.{terms-at, terms-increasing}
 use Rattle.irr_sparse.proofs.Products.{combined-most, combined-next, combined-small, combined-start, factor-small, term-scaled, terms-scaled, total-scaled}
-use Rattle.irr_sparse.proofs.Sums.{sum-scaled, term_value}
+use Rattle.irr_sparse.proofs.Sums.{sum-scaled}
 use Rattle.irr_sparse.proofs.Words.{product_fits, product_read}
 use Rattle.irr_sparse.proofs.combinations.combination.Goals as goal
 

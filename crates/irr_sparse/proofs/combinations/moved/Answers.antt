@@ -1,5 +1,5 @@
 -- The terms at their new places.
-use Rattle.std.proofs.Common.{◌≡◌, sym, ◌∙◌, ap, subst, ℕ, ℤ, pos, List, []}
+use Rattle.std.proofs.Common.{sym, ◌∙◌, ap, subst, ℕ, ℤ, pos, List}
 use Rattle.irr_algebra.proofs.Rings.{zero-add}
 use Rattle.irr_number.specs.Number.{numbers}
 use Rattle.irr_cyc.specs.Terms.{terms_sum}

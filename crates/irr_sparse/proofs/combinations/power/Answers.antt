@@ -1,6 +1,5 @@
 -- The terms of one power.
-use Rattle.std.proofs.Common.{◌≡◌, sym, ◌∙◌, ap, subst, ℕ, ℤ, pos, List, []}
-use Rattle.irr_number.specs.Number.{numbers, root_power}
+use Rattle.std.proofs.Common.{sym, subst, ℕ, ℤ, List}
 use Rattle.irr_cyc.specs.Terms.{terms_sum}
 use Rattle.irr_sparse.specs.Parts.{IsFreeOutside}
 use Rattle.irr_sparse.specs.TermList.{AreTerms}

@@ -1,9 +1,9 @@
 -- One product more.
-use Rattle.std.proofs.Common.{rules, ◌≡◌, sym, ◌∙◌, ap, ap₂, ℕ, ℤ, pos, ◌+◌, ◌*◌, ◌<◌, ◌^◌, ◌*ℤ◌, List, [], ◌∷◌, ◌++◌, take, map, length, unsigned_abs, FitsSigned, to_z, of_z, arith}
+use Rattle.std.proofs.Common.{rules, ◌≡◌, sym, ◌∙◌, ap, ap₂, ℕ, ℤ, pos, ◌+◌, ◌*ℤ◌, List, [], ◌∷◌, ◌++◌, take, map, unsigned_abs, FitsSigned, to_z, of_z}
 use Rattle.std.proofs.lemmas.Int.{to_z-of_z}
 use Rattle.std.proofs.lemmas.List.{map_more, take_all}
 use mir.Syntax.{w128}
-use Rattle.irr_sparse.specs.TermList.{coefficient_at, exponent_at, total}
+use Rattle.irr_sparse.specs.TermList.{coefficient_at, exponent_at}
 use Rattle.irr_sparse.proofs.Products.{factor-small}
 use Rattle.irr_sparse.proofs.Words.{product_fits, product_read}
 use Rattle.irr_sparse.proofs.combinations.scaled.Goals as goal

@@ -1,12 +1,12 @@
 -- From one coefficient to the next.
-use Rattle.std.proofs.Common.{◌≡◌, ◌∙◌, ap, subst, rules, ℕ, ℤ, List, ◌<◌, ◌≤◌, ◌^◌, ◌%◌, length, unsigned_abs, arith}
+use Rattle.std.proofs.Common.{◌≡◌, ◌∙◌, ap, subst, rules, ◌<◌, ◌≤◌, ◌^◌, ◌%◌, length, unsigned_abs, arith}
 use Rattle.std.proofs.lemmas.Int.{to_z-of_z}
 use Rattle.std.specs.Int.{IsGcd}
 use Rattle.std.specs.Int.RustNames.{FitsSigned}
 use mir.Syntax.{w128}
 use native.Mathlib.Nat as Nat
 use Rattle.irr_sparse.specs.TermList.{coefficient_at}
-use Rattle.irr_sparse.proofs.Divisors.{IsDivisorOf, divisor-one, divisor-start, divisor-step}
+use Rattle.irr_sparse.proofs.Divisors.{divisor-one, divisor-start, divisor-step}
 use Rattle.irr_sparse.proofs.lowest.common_divisor.Goals as goal
 
 pub loop-coefficient-init : goal.loop-coefficient-init

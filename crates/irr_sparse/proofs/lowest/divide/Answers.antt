@@ -1,5 +1,5 @@
 -- Each coefficient is its exact quotient.
-use Rattle.std.proofs.Common.{◌≡◌, refl, sym, ◌∙◌, ap, rules, ℕ, ℤ, pos, ◌+◌, ◌<◌, ◌<ℤ◌, List, ◌++◌, map, take, drop, length, slice_set, slice_index_or, int_div, to_z, of_z, arith, append-nil}
+use Rattle.std.proofs.Common.{◌≡◌, refl, ◌∙◌, ap, rules, ℕ, ℤ, pos, ◌+◌, ◌<◌, ◌<ℤ◌, List, ◌++◌, map, take, drop, length, slice_set, slice_index_or, int_div, to_z, of_z, arith, append-nil}
 use Rattle.std.specs.Int.RustNames.{FitsSigned}
 use Rattle.std.proofs.lemmas.Int.{ints, quot_fits, to_z-of_z}
 use Rattle.std.proofs.lemmas.List.{drop_all, get_or_default, take_all}

@@ -1,5 +1,5 @@
 -- The coefficients so far have been divided.
-use Rattle.std.proofs.Common.{◌≡◌, ℤ, pos, ◌++◌, map, take, drop, int_div}
+use Rattle.std.proofs.Common.{◌≡◌, pos, ◌++◌, map, take, drop, int_div}
 use Rattle.irr_sparse.proofs.lowest.divide.Given as goal
 
 abbrev pub invariant-loop-term : goal.invariant-loop-term

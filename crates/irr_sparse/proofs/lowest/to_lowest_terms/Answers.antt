@@ -1,10 +1,10 @@
 -- Terms and denominator over their greatest common divisor are in lowest terms.
-use Rattle.std.proofs.Common.{◌≡◌, sym, ◌∙◌, ap, subst, ℕ, ℤ, List, ◌/◌, length, arith}
+use Rattle.std.proofs.Common.{sym, ◌∙◌, ap, subst, ℕ, ℤ, List, ◌/◌, length}
 use Rattle.std.specs.Int.{◌∣◌}
 use Rattle.irr_cyc.proofs.Divisors.{one_of_dvd}
 use Rattle.irr_sparse.specs.TermList.{AreTerms, IsLowest}
 use Rattle.irr_sparse.specs.Value.{value_of}
-use Rattle.irr_sparse.proofs.Divisors.{IsDivisorOf, divided, divided-lowest, divided-positive, divided-terms, divided-value}
+use Rattle.irr_sparse.proofs.Divisors.{IsDivisorOf, divided-lowest, divided-positive, divided-terms, divided-value}
 use Rattle.irr_sparse.proofs.lowest.to_lowest_terms.Goals as goal
 
 pub returns-then-den-eq1-clause-lowest : goal.returns-then-den-eq1-clause-lowest

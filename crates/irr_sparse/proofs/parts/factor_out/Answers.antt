@@ -2,9 +2,6 @@
 use Rattle.std.proofs.Common.{◌≡◌, sym, ◌∙◌, ap, ℕ, suc, ◌*◌, ◌/◌, ◌<◌, inl, inr, arith}
 use Rattle.std.proofs.lemmas.Bool.{cases_lt}
 use native.Mathlib.Nat as Nat
-use Rattle.irr_sparse.proofs.Tops.{top-other}
-use Rattle.irr_sparse.proofs.Sums.{sum-none}
-use Rattle.irr_sparse.proofs.Forms.{zero-terms}
 use Rattle.irr_sparse.proofs.parts.factor_out.Goals as goal
 
 positive-quotient : (p rest : ℕ) → 0 < rest → p * (rest / p) ≡ rest → 0 < rest / p

@@ -1,5 +1,5 @@
 -- From one factor to the next.
-use Rattle.std.proofs.Common.{◌≡◌, ◌≢◌, sym, ◌∙◌, ap, ◌+◌, ◌≤◌, ◌<◌, ◌*◌, ◌%◌, arith}
+use Rattle.std.proofs.Common.{◌≢◌, ◌∙◌, ap, ◌≤◌, ◌%◌, arith}
 use native.Mathlib.Nat as Nat
 use Rattle.irr_sparse.proofs.Steps.{least_le, no_prime_below, no_prime_next}
 use Rattle.irr_sparse.proofs.parts.least_factor.Goals as goal

@@ -1,6 +1,6 @@
 -- One prime more is listed.
-use Rattle.std.proofs.Common.{◌≡◌, sym, ◌∙◌, ap, subst, refl, List, ◌+◌, ◌<◌, arith}
-use Rattle.irr_sparse.proofs.Steps.{Listed, listed-all, listed-next, listed-none, listed-positive, listed-room, listed-start, listed-two, listed-weight}
+use Rattle.std.proofs.Common.{sym, subst, refl, List, ◌+◌, arith}
+use Rattle.irr_sparse.proofs.Steps.{Listed, listed-all, listed-next, listed-room, listed-start, listed-weight}
 use Rattle.irr_sparse.specs.declared.parts.Part.{Part}
 use Rattle.irr_sparse.proofs.parts.parts_of.Goals as goal
 

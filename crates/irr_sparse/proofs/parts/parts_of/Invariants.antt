@@ -1,5 +1,4 @@
 -- The primes so far are listed.
-use Rattle.std.proofs.Common.{◌-◌}
 use Rattle.irr_sparse.proofs.Steps.{Listed}
 use Rattle.irr_sparse.proofs.parts.parts_of.Given as goal
 

@@ -1,5 +1,5 @@
 -- The term where no prime is left, the same power where it is no top power, and the others of its class.
-use Rattle.std.proofs.Common.{rules, ◌≡◌, ◌≢◌, sym, ◌∙◌, ap, subst, ℕ, ℤ, pos, ◌+◌, ◌*◌, ◌-◌, ◌/◌, ◌%◌, ◌<◌, ◌≤◌, ◌^◌, ◌-ℤ◌, FitsSigned, List, ◌∷◌, take, drop, refl, Bool, true, false, ◌==◌, length, slice_index_or, neg_ℤ, unsigned_abs, to_z, of_z, arith}
+use Rattle.std.proofs.Common.{rules, ◌≡◌, sym, ◌∙◌, ap, subst, ℕ, ℤ, pos, ◌+◌, ◌*◌, ◌-◌, ◌<◌, ◌≤◌, ◌^◌, ◌-ℤ◌, FitsSigned, take, drop, Bool, true, false, ◌==◌, length, slice_index_or, neg_ℤ, unsigned_abs, to_z, of_z, arith}
 use mir.Syntax.{w128}
 use native.Mathlib.Nat as Nat
 use Rattle.std.proofs.lemmas.Grind.{common_steps}
@@ -7,11 +7,10 @@ use Rattle.irr_number.specs.Number.{numbers}
 use Rattle.irr_rational.specs.Integer.{integer}
 use Rattle.irr_canonical.proofs.Sizes.{unsigned_abs-neg}
 use Rattle.irr_cyc.specs.Terms.{terms_sum}
-use Rattle.irr_sparse.specs.Parts.{AreParts, IsFreeOutside, weight}
+use Rattle.irr_sparse.specs.Parts.{IsFreeOutside, weight}
 use Rattle.irr_sparse.specs.TermList.{IsTerm, total}
-use Rattle.irr_sparse.specs.declared.parts.Part.{Part}
 use Rattle.irr_sparse.proofs.Lists.{terms-increasing}
-use Rattle.irr_sparse.proofs.Powers.{first_is, first_part, last_term, prime-pos, rest_are, rest_free, skip_le, turn_below, turn_free, turn_most, turn_small, turns-end, turns-next, turns-start, turns_most, weight-nil, weight-pos}
+use Rattle.irr_sparse.proofs.Powers.{first_part, last_term, prime-pos, rest_are, rest_free, skip_le, turn_below, turn_free, turn_most, turn_small, turns-end, turns-next, turns-start, turns_most, weight-nil, weight-pos}
 use Rattle.irr_sparse.proofs.Sums.{term_value}
 use Rattle.irr_sparse.proofs.Tops.{others}
 use Rattle.irr_sparse.proofs.Words.{neg-ne-zero, neg_fits, neg_read}

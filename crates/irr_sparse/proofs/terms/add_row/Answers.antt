@@ -1,15 +1,14 @@
 -- One term more of the row.
-use Rattle.std.proofs.Common.{rules, ◌≡◌, ◌≢◌, sym, ◌∙◌, ap, subst, ℕ, ℤ, pos, ◌+◌, ◌*◌, ◌%◌, ◌<◌, ◌≤◌, ◌^◌, ◌*ℤ◌, List, take, length, unsigned_abs, FitsSigned, to_z, of_z, arith}
+use Rattle.std.proofs.Common.{rules, ◌≡◌, sym, ◌∙◌, ap, subst, ℕ, ℤ, pos, ◌+◌, ◌*◌, ◌<◌, ◌≤◌, ◌^◌, ◌*ℤ◌, List, take, unsigned_abs, FitsSigned, to_z, of_z, arith}
 use Rattle.std.proofs.lemmas.Int.{to_z-of_z, unsigned_abs-mul}
 use Rattle.std.proofs.lemmas.List.{take_all}
 use mir.Syntax.{w128}
 use Rattle.irr_number.specs.Number.{numbers}
 use Rattle.irr_cyc.specs.Terms.{terms_sum}
-use Rattle.irr_sparse.specs.Parts.{IsFreeOutside, weight}
-use Rattle.irr_sparse.specs.TermList.{coefficient_at, exponent_at, row_sum, total}
+use Rattle.irr_sparse.specs.Parts.{weight}
+use Rattle.irr_sparse.specs.TermList.{coefficient_at, row_sum, total}
 use Rattle.irr_sparse.proofs.Powers.{weight-pos}
 use Rattle.irr_sparse.proofs.Rows.{most-next, product-ne-zero, product-small, row-end, row-next, row-start, small-next}
-use Rattle.irr_sparse.proofs.Sums.{term_value}
 use Rattle.irr_sparse.proofs.Words.{product_fits, product_read}
 use Rattle.irr_sparse.proofs.terms.add_row.Goals as goal
 

@@ -1,6 +1,5 @@
 -- The four ways to add a term.
-use Rattle.std.proofs.Common.{rules, ◌≡◌, ◌≢◌, sym, ◌∙◌, ap, ℕ, ℤ, pos, ◌+◌, ◌<◌, ◌≤◌, ◌^◌, ◌+ℤ◌, refl, length, slice_set, unsigned_abs, FitsSigned, to_z, of_z, arith}
-use Rattle.std.proofs.lemmas.Int.{to_z-of_z}
+use Rattle.std.proofs.Common.{rules, ◌≡◌, ◌∙◌, ℕ, ℤ, pos, ◌+◌, ◌<◌, ◌≤◌, ◌^◌, ◌+ℤ◌, refl, length, slice_set, unsigned_abs, to_z, of_z, arith}
 use mir.Syntax.{w128}
 use Rattle.irr_cyc.proofs.Written.{kept}
 use Rattle.irr_sparse.specs.TermList.{total}

@@ -1,7 +1,5 @@
 -- What is before and after the middle.
-use Rattle.std.proofs.Common.{ℕ, ◌≡◌, ap, subst, sym, ◌+◌, ◌-◌, ◌/◌, ◌<◌, ◌≤◌, inl, inr, length, arith}
-use Rattle.std.proofs.lemmas.Bool.{cases_lt}
-use Rattle.irr_sparse.specs.TermList.{exponent_at}
+use Rattle.std.proofs.Common.{◌≤◌, length, arith}
 use Rattle.irr_sparse.proofs.terms.place_of.Goals as goal
 
 pub loop-low-preserved : goal.loop-low-preserved
