@@ -1,0 +1,14 @@
+pub mod Tops
+pub mod Sums
+pub mod Steps
+pub mod Lists
+pub mod Words
+pub mod Edits
+pub mod Powers
+pub mod Values
+pub mod Forms
+pub mod Rows
+pub mod Products
+pub mod Divisors
+pub mod Arithmetic
+pub mod FormsOf

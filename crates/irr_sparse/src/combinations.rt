@@ -1,0 +1,164 @@
+//! Terms of powers, sums, products and lifts.
+ghost use Rattle.std.specs.Prelude.{ℕ, ℤ, pos, ◌≡◌, ◌≢◌, ◌+◌, ◌*◌, ◌^◌, ◌<◌, ◌≤◌, ◌*ℤ◌, map, length, All, IfOk, OnOk, sum_by};
+ghost use Rattle.std.specs.Int.RustNames.{unsigned_abs};
+ghost use Rattle.irr_number.specs.Number.{numbers, root_power};
+ghost use Rattle.irr_rational.specs.Integer.{integer};
+ghost use Rattle.irr_cyc.specs.Terms.{terms_sum};
+ghost use Rattle.irr_cyc.specs.declared.orders.TheConstants.{ORDER_LIMIT};
+ghost use Rattle.irr_sparse.specs.TermList.{AreTerms, row_sum, total};
+ghost use Rattle.irr_sparse.specs.Parts.{AreParts, IsFreeOutside, weight};
+
+use crate::parts::{Part, parts_of};
+use crate::terms::{add_power, add_row, add_term};
+use irr_cyc::{Memory, ORDER_LIMIT};
+use std::alloc::Global;
+
+/// The terms of z^j in the basis: at most the product of p - 1 over the primes of n, and mostly one.
+pub(crate) fn power(alloc: Global, n: u32, exponent: u32) -> Result<Vec<(u32, i128)>, Memory>
+    requires few { n ≤ ORDER_LIMIT }
+    requires inside { exponent < n }
+    ensures terms { IfOk result (λ v. AreTerms n 0 v.items) }
+    ensures sum { IfOk result (λ v. terms_sum n v.items ≡ root_power n exponent) }
+{
+    let parts = parts_of(n);
+    let mut sums = Vec::new(alloc);
+    add_power(&mut sums, n, parts.as_slice(), exponent, 1)?;
+    Ok(sums)
+}
+
+/// The terms of a product: the cost of `add_power` for each pair of terms.
+pub(crate) fn product(
+    alloc: Global,
+    n: u32,
+    xs: &[(u32, i128)],
+    ys: &[(u32, i128)],
+) -> Result<Vec<(u32, i128)>, Memory>
+    requires positive { 0 < n }
+    requires few { n ≤ ORDER_LIMIT }
+    requires left { AreTerms n 0 xs.now }
+    requires right { AreTerms n 0 ys.now }
+    requires small { total xs.now * total ys.now ≤ 2 ^ 100 }
+    ensures terms { IfOk result (λ v. AreTerms n 0 v.items) }
+    ensures sum { IfOk result (λ v. terms_sum n v.items ≡ (numbers n).mul (terms_sum n xs.now) (terms_sum n ys.now)) }
+{
+    let parts = parts_of(n);
+    let mut sums = Vec::new(alloc);
+    for (exponent, coefficient) in xs {
+        add_row(
+            &mut sums,
+            n,
+            parts.as_slice(),
+            *coefficient,
+            *exponent,
+            1,
+            ys,
+        )?;
+    }
+    Ok(sums)
+}
+
+/// The terms with z^f for z: the cost of `add_power` for each.
+pub(crate) fn moved(
+    alloc: Global,
+    n: u32,
+    factor: u32,
+    terms: &[(u32, i128)],
+) -> Result<Vec<(u32, i128)>, Memory>
+    requires positive { 0 < n }
+    requires few { n ≤ ORDER_LIMIT }
+    requires inside { All (λ t. factor * t.0 < n) terms.now }
+    requires each { All (λ t. t.1 ≢ pos 0) terms.now }
+    requires small { total terms.now ≤ 2 ^ 100 }
+    ensures terms { IfOk result (λ v. AreTerms n 0 v.items) }
+    ensures sum { IfOk result (λ v. terms_sum n v.items ≡ row_sum n (pos 1) 0 factor terms.now) }
+{
+    let parts = parts_of(n);
+    let mut sums = Vec::new(alloc);
+    add_row(&mut sums, n, parts.as_slice(), 1, 0, factor, terms)?;
+    Ok(sums)
+}
+
+// Adds c z^j, where c may be 0.
+fn add_whole(
+    sums: &mut Vec<(u32, i128)>,
+    n: u32,
+    parts: &[Part],
+    exponent: u32,
+    coefficient: i64,
+) -> Result<(), Memory>
+    requires few { n ≤ ORDER_LIMIT }
+    requires inside { exponent < n }
+    requires parts { AreParts n parts.now }
+    requires all { (j : ℕ) → IsFreeOutside n parts.now j }
+    requires terms { AreTerms n 0 sums.old.items }
+    requires small { total sums.old.items + unsigned_abs coefficient * weight parts.now < 2 ^ 126 }
+    ensures terms { OnOk result (AreTerms n 0 sums.new.items) }
+    ensures sum { OnOk result (terms_sum n sums.new.items ≡ (numbers n).add (terms_sum n sums.old.items) ((numbers n).mul (integer (numbers n) coefficient) (root_power n exponent))) }
+    ensures total { OnOk result (total sums.new.items ≤ total sums.old.items + unsigned_abs coefficient * weight parts.now) }
+{
+    if coefficient == 0 {
+        return Ok(());
+    }
+    add_power(sums, n, parts, exponent, i128::from(coefficient))?;
+    Ok(())
+}
+
+/// The terms of a sum of any powers below n: the cost of `add_power` for each.
+pub(crate) fn collected(
+    alloc: Global,
+    n: u32,
+    terms: &[(u32, i64)],
+) -> Result<Vec<(u32, i128)>, Memory>
+    requires positive { 0 < n }
+    requires few { n ≤ ORDER_LIMIT }
+    requires exponents { All (λ t. t.0 < n) terms.now }
+    requires small { sum_by (λ t. unsigned_abs t.1) terms.now ≤ 2 ^ 100 }
+    ensures terms { IfOk result (λ v. AreTerms n 0 v.items) }
+    ensures sum { IfOk result (λ v. terms_sum n v.items ≡ terms_sum n terms.now) }
+{
+    let parts = parts_of(n);
+    let mut sums = Vec::new(alloc);
+    for (exponent, coefficient) in terms {
+        add_whole(&mut sums, n, parts.as_slice(), *exponent, *coefficient)?;
+    }
+    Ok(sums)
+}
+
+/// Each coefficient times a number: one allocation, and as many steps as terms.
+pub(crate) fn scaled(
+    alloc: Global,
+    terms: &[(u32, i128)],
+    times: i128,
+) -> Result<Vec<(u32, i128)>, Memory>
+    requires { total terms.now * unsigned_abs times < 2 ^ 126 }
+    ensures { IfOk result (λ v. v.items ≡ map (λ t. (t.0, t.1 *ℤ times)) terms.now) }
+{
+    let mut products = Vec::with_capacity(alloc, terms.len())?;
+    for (exponent, coefficient) in terms {
+        products.push((*exponent, *coefficient * times))?;
+    }
+    Ok(products)
+}
+
+/// The terms of `left` times a number and `right` times another, of one order: a search by halves for each term
+/// on the right.
+pub(crate) fn combination(
+    alloc: Global,
+    xs: &[(u32, i128)],
+    left: i128,
+    ys: &[(u32, i128)],
+    right: i128,
+) -> Result<Vec<(u32, i128)>, Memory>
+    requires both { (n : ℕ) × AreTerms n 0 xs.now × AreTerms n 0 ys.now }
+    requires left { left ≢ pos 0 }
+    requires right { right ≢ pos 0 }
+    requires small { total xs.now * unsigned_abs left + total ys.now * unsigned_abs right < 2 ^ 110 }
+    ensures terms { IfOk result (λ v. (n : ℕ) → AreTerms n 0 xs.now → AreTerms n 0 ys.now → AreTerms n 0 v.items) }
+    ensures sum { IfOk result (λ v. (n : ℕ) → terms_sum n v.items ≡ (numbers n).add ((numbers n).mul (integer (numbers n) left) (terms_sum n xs.now)) ((numbers n).mul (integer (numbers n) right) (terms_sum n ys.now))) }
+{
+    let mut sums = scaled(alloc, xs, left)?;
+    for (exponent, coefficient) in ys {
+        add_term(&mut sums, *exponent, *coefficient * right)?;
+    }
+    Ok(sums)
+}
