@@ -9,3 +9,4 @@ pub mod MadeBlocks
 pub mod EntryReads
 pub mod FilledMatrices
 pub mod ArmTraces
+pub mod SingleFamilies
