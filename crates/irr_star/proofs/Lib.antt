@@ -10,3 +10,5 @@ pub mod EntryReads
 pub mod FilledMatrices
 pub mod ArmTraces
 pub mod SingleFamilies
+pub mod WaveLimits
+pub mod FullSizes

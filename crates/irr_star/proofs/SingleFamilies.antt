@@ -2,7 +2,7 @@
 --   checkable            such a family can be checked
 --   represented          where no defect is found, it is a small representation
 --   small_singles        a small one
-use Rattle.std.proofs.Common.{◌≡◌, sym, subst, refl, ℕ, ◌<◌, ◌≤◌, ◌^◌, List, length, Option, None, arith}
+use Rattle.std.proofs.Common.{◌≡◌, sym, subst, refl, ℕ, ◌<◌, ◌^◌, List, length, Option, None, arith}
 use Rattle.std.specs.Int.{◌∣◌}
 use Rattle.irr_algebra.specs.Fin.{Fin, to_nat}
 use Rattle.irr_algebra.proofs.Indices.{to_nat-lt}

@@ -50,8 +50,8 @@ pub(crate) fn turned<S: Scalar>(alloc: Global, order: &Order, e: u32, x: &S) -> 
 }
 
 impl<S: Scalar> Full<S> {
-    // The entry in row i and column j of a block that is not 0.
-    fn block_entry(&self, alloc: Global, block: &Block, i: u32, j: u32) -> Result<S, Memory>
+    /// The entry in row i and column j of a block that is not 0. The error is want of memory.
+    pub fn block_entry(&self, alloc: Global, block: &Block, i: u32, j: u32) -> Result<S, Memory>
         requires induced { IsFullRepresentation self.now }
         requires place { block.now.place < length self.now.family.mats.items }
         requires exponent { block.now.exponent < self.now.order.n }
