@@ -1,0 +1,11 @@
+pub mod ShiftSizes
+pub mod MemberSizes
+pub mod Landings
+pub mod BlockLaws
+pub mod StarLists
+pub mod FamilyItems
+pub mod NumberSizes
+pub mod MadeBlocks
+pub mod EntryReads
+pub mod FilledMatrices
+pub mod ArmTraces

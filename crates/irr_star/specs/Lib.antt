@@ -1,0 +1,5 @@
+pub mod Stars
+pub mod Sizes
+pub mod Products
+pub mod Blocks
+pub mod Induced

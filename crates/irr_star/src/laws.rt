@@ -1,0 +1,39 @@
+// Laws of stars and full representations of groups in the program.
+ghost use Rattle.std.specs.Prelude.{ℕ, ◌<◌, List};
+ghost use Rattle.std.specs.Int.{◌∣◌};
+ghost use Rattle.irr_algebra.specs.Matrix.{Matrix};
+ghost use Rattle.irr_algebra.specs.Pair.{times};
+ghost use Rattle.irr_number.specs.Number.{numbers};
+ghost use Rattle.irr_theory.specs.FactorSystem.{Representation};
+ghost use Rattle.irr_space.specs.Operation.{Operation, WaveVector};
+ghost use Rattle.irr_space.specs.CanonicalOperation.{IsNumbering};
+ghost use Rattle.irr_space.specs.PhaseTable.{phases_over};
+ghost use Rattle.irr_seitz.specs.PhaseMeaning.{sign_of};
+ghost use Rattle.irr_seitz.specs.declared.op.Op.{Op};
+ghost use Rattle.irr_rep.specs.Twisted.{operation_places, phase_table};
+ghost use Rattle.irr_rep.specs.declared.table.Twisted.{Twisted};
+ghost use Rattle.irr_close.specs.Canonical.{numbered};
+ghost use Rattle.irr_close.specs.StandsFor.{stands_for};
+ghost use Rattle.irr_close.specs.declared.group.Group.{Group};
+ghost use Rattle.irr_little.specs.Arms.{AreArms};
+ghost use Rattle.irr_little.specs.Table.{IsLittleTable};
+ghost use Rattle.irr_little.specs.declared.arms.Arm.{Arm};
+ghost use Rattle.irr_full.specs.GroupRepresentation.{IsRepresentation};
+ghost use Rattle.irr_full.specs.Star.{Star};
+ghost use Rattle.irr_full.specs.Full.{IsFullOf};
+ghost use Rattle.irr_star.specs.Stars.{IsStarOf, star_of};
+
+/// The arms of a star and the table of the little group are those of one star.
+pub fn stars_of_lists()
+    ensures { (group : Group) (k : WaveVector) (arms : List Arm) (t : Twisted) (d : Op) (a : Arm)
+        (canonical : IsNumbering (stands_for group) (λ _. Unit {0}) (numbered group.ops.items d))
+        (are_arms : AreArms group k arms) (little : IsLittleTable group k (operation_places t) (phase_table t))
+        → IsStarOf group arms t (star_of group k arms t d a canonical are_arms little) }
+{}
+
+/// Each small representation has a full one, and it is a representation of the group.
+pub fn full_representations_of_groups()
+    ensures { (group : Group) (k : WaveVector) (U : Star (sign_of group.phase) (stands_for group) k) (M : ℕ) → 0 < M → (v : U.table.order ∣ M)
+        (d : ℕ) (D : Representation (phases_over U.table M v) d)
+        → (A : Operation → Matrix (numbers M) (times U.arms d) (times U.arms d)) × IsFullOf U M v D A × IsRepresentation (stands_for group) A }
+{}
