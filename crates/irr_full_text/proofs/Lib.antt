@@ -4,3 +4,4 @@ pub mod Turns
 pub mod Entries
 pub mod Rows
 pub mod Readings
+pub mod Translations

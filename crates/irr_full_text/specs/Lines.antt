@@ -2,6 +2,7 @@
 --   AreInList ops arms       the numbers of the arms' operations are those of operations of the list
 --   head_text                the lines before those of the arms
 --   arm_words, arm_text      the line of an arm with its number
+--   star_text                the lines of arms and of operations
 --   generator_text           the line of a generator with its number
 --   number_word n x          a blank and the number x of order n
 --   row_text M B r           row r of matrices B beside one another
@@ -22,7 +23,7 @@ use Rattle.irr_seitz.specs.OperationMeaning.{operation}
 use Rattle.irr_seitz.specs.declared.op.Op.{Op}
 use Rattle.irr_kvec.specs.WaveMeaning.{wave_vector}
 use Rattle.irr_little.specs.declared.arms.Arm.{Arm}
-use Rattle.irr_report.specs.Printed.{numbered}
+use Rattle.irr_report.specs.Printed.{numbered, operation_text}
 
 abbrev pub AreInList : List Op → List Arm → Type 0
 AreInList ops arms = All (λ arm. arm.op < length ops) arms
@@ -37,6 +38,11 @@ arm_words n wave g = line (codes "arm" ++ next_word (decimal n) ++ next_word (wa
 -- past the end of the list, d stands for an operation
 abbrev pub arm_text : List Op → Op → ℕ → Arm → List ℕ
 arm_text ops d n arm = arm_words n (wave_vector arm.wave) (operation (slice_index_or ops arm.op d))
+
+-- the lines before those of the generators; a stands past the end of the arms
+abbrev pub star_text : List Op → List Arm → ℕ → Op → Arm → List ℕ
+star_text ops arms order d a = head_text (wave_vector (slice_index_or arms 0 a).wave) order (length arms) ++ numbered (arm_text ops d) 1 arms
+    ++ line (codes "ops" ++ next_word (decimal (length ops))) ++ numbered operation_text 1 ops
 
 abbrev pub generator_text : ℕ → Op → List ℕ
 generator_text k g = line (codes "gen" ++ next_word (decimal k) ++ next_word (triplet_text (operation g)))

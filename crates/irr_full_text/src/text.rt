@@ -1,12 +1,15 @@
 // The text of full representations.
-ghost use Rattle.std.specs.Prelude.{ℕ, ◌≡◌, ◌<◌, ◌++◌, length, IfOk, OnOk};
+ghost use Rattle.std.specs.Prelude.{◌≡◌, ◌<◌, length, IfOk};
 ghost use Rattle.std.specs.Int.{◌∣◌};
 ghost use Rattle.irr_theory.specs.Representations.{Representations};
 ghost use Rattle.irr_space.specs.Operation.{WaveVector};
 ghost use Rattle.irr_space.specs.PhaseTable.{phases_at};
 ghost use Rattle.irr_seitz.specs.PhaseMeaning.{sign_of};
 ghost use Rattle.irr_close.specs.StandsFor.{stands_for};
+ghost use Rattle.irr_seitz.specs.declared.op.Op.{Op};
+ghost use Rattle.irr_little.specs.declared.arms.Arm.{Arm};
 ghost use Rattle.irr_full.specs.Star.{Star};
+ghost use Rattle.irr_full_text.specs.Lines.{AreInList, star_text};
 ghost use Rattle.irr_full_text.specs.Printed.{Matrices, IsPrintedStar, AreFullsOf, IsTextAt};
 
 use crate::generating::generators;
@@ -14,7 +17,7 @@ use crate::lines::{head, push_arms, push_generators};
 use crate::representations::push_fulls;
 use irr_close::Group;
 use irr_cyc::{Order, Scalar};
-use irr_little::Arms;
+use irr_little::{Arm, Arms};
 use irr_memory::Memory;
 use irr_rep::Twisted;
 use irr_report::push_operations;
@@ -40,19 +43,30 @@ pub fn text_full<S: Scalar>(
         → IsPrintedStar group.now star.now.arms.items t.now U → AreFullsOf group.now U v L A fulls.now
         → IfOk result (λ text. IsTextAt group.now U L A text.items) }
 {
-    let mut text = head(alloc, &star.arms[0].wave, t.order(), star.arms.len())?;
-    push_arms(alloc, &mut text, group.ops(), &star.arms)?;
-    let count = group.ops().len();
-    text.extend_from_slice(format!(in alloc; "ops {count}\n")?.as_bytes())?;
-    push_operations(alloc, &mut text, group.ops())?;
+    let order = Order::new(alloc, t.order())?;
     let gens = generators(alloc, group)?;
+    let mut text = star_lines(alloc, group, &star.arms, t.order())?;
     let count = gens.len();
     text.extend_from_slice(format!(in alloc; "gens {count}\n")?.as_bytes())?;
     push_generators(alloc, &mut text, &gens)?;
     let count = fulls.len();
     text.extend_from_slice(format!(in alloc; "reps {count}\n")?.as_bytes())?;
-    let order = Order::new(alloc, t.order())?;
     push_fulls(alloc, &mut text, &order, fulls, group.ops(), &gens)?;
     text.extend_from_slice(b"end\n")?;
+    Ok(text)
+}
+
+// The lines of a star and of the canonical operations of its group.
+fn star_lines(alloc: Global, group: &Group, arms: &[Arm], order: u32) -> Result<Vec<u8>, Memory>
+    requires some { 0 < length arms.now }
+    requires numbers { AreInList group.now.ops.items arms.now }
+    ensures { (d : Op) (a : Arm) → IfOk result (λ text. text.items ≡ star_text group.now.ops.items arms.now order d a) }
+{
+    let mut text = head(alloc, &arms[0].wave, order, arms.len())?;
+    let ops = group.ops();
+    push_arms(alloc, &mut text, ops, arms)?;
+    let count = ops.len();
+    text.extend_from_slice(format!(in alloc; "ops {count}\n")?.as_bytes())?;
+    push_operations(alloc, &mut text, ops)?;
     Ok(text)
 }
