@@ -5,3 +5,5 @@ pub mod Entries
 pub mod Rows
 pub mod Readings
 pub mod Translations
+pub mod FirstArms
+pub mod Contents
