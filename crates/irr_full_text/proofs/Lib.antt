@@ -7,3 +7,4 @@ pub mod Readings
 pub mod Translations
 pub mod FirstArms
 pub mod Contents
+pub mod CompleteContents

@@ -45,7 +45,7 @@ pub fn full_representations_of_lists()
 pub fn contents_of_complete_lists()
     ensures { (group : Group) (k : WaveVector) (U : Star (sign_of group.phase) (stands_for group) k) → IsReduced (stands_for group) k k
         → (L : Representations (phases_at U.table)) → IsCompleteList U.table L → IsInOrder U.table L → (A : Matrices group U L)
-        → ((v : U.table.order ∣ U.table.order) (m : Fin L.count) → IsFullOf U U.table.order v (over U.table U.table.order v (L.member m)) (A m))
+        → (v : U.table.order ∣ U.table.order) → ((m : Fin L.count) → IsFullOf U U.table.order v (over U.table U.table.order v (L.member m)) (A m))
         → (generators : List Operation) → AreGeneratorsOf (stands_for group) U.canonical generators
         → IsFullContent (sign_of group.phase) (stands_for group) k (full_content k U generators (λ m. times U.arms (L.size m)) A) }
 {}
