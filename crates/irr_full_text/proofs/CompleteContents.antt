@@ -2,7 +2,7 @@
 --   full_of_list          each member of a list has a full representation
 --   full_at_divisor       over the order of the table it is one, whichever way that divides itself
 --   complete_content      those of a complete list in canonical order are a content
-use Rattle.std.proofs.Common.{◌≡◌, sym, ◌∙◌, ap, refl, ℕ, ◌<◌, List}
+use Rattle.std.proofs.Common.{sym, ◌∙◌, ap, refl, ℕ, ◌<◌, List}
 use Rattle.std.specs.Int.{◌∣◌}
 use native.Mathlib.Nat as Nat
 use Rattle.irr_algebra.specs.Fin.{Fin}

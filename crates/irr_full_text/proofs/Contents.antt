@@ -5,12 +5,12 @@
 --   readings_of             what the values stand for
 --   full_is                 the lines of a representation
 --   text_is                 the whole text
-use Rattle.std.proofs.Common.{◌≡◌, sym, ◌∙◌, ap, ap₂, subst, refl, ℕ, zero, suc, ◌<◌, List, ◌∷◌, [], ◌++◌, append_assoc, length, map, get_or, arith}
+use Rattle.std.proofs.Common.{◌≡◌, sym, ◌∙◌, ap, ap₂, subst, refl, ℕ, suc, ◌<◌, List, ◌∷◌, [], ◌++◌, append_assoc, length, map, get_or}
 use Rattle.std.specs.Int.{◌∣◌}
 use Rattle.std.specs.Prelude.{codes}
 use Rattle.std.specs.List.{flat_map}
 use Rattle.std.specs.Fmt.{decimal}
-use Rattle.std.proofs.lemmas.List.{length-map, get_or_default}
+use Rattle.std.proofs.lemmas.List.{length-map}
 use Rattle.irr_algebra.specs.Fin.{Fin, to_nat}
 use Rattle.irr_algebra.specs.Matrix.{trace}
 use Rattle.irr_algebra.specs.Pair.{times}
@@ -32,7 +32,7 @@ use Rattle.irr_kvec.specs.WaveMeaning.{wave_vector}
 use Rattle.irr_cyc.specs.declared.scalars.Scalar.{Ghosts}
 use Rattle.irr_rep.specs.Twisted.{phase_table}
 use Rattle.irr_rep.specs.declared.table.Twisted.{Twisted}
-use Rattle.irr_close.specs.StandsFor.{stands_for, IsSameGroup}
+use Rattle.irr_close.specs.StandsFor.{stands_for}
 use Rattle.irr_close.specs.declared.group.Group.{Group}
 use Rattle.irr_close.proofs.SpaceGroups.{space_group}
 use Rattle.irr_little.proofs.Spaces.{has_canonical}
@@ -44,7 +44,7 @@ use Rattle.irr_star.specs.declared.full.Full.{Full}
 use Rattle.irr_star.proofs.MemberSizes.{same_member}
 use Rattle.irr_full_text.specs.FullText.{FullContent, generator_line, generator_matrix, trace_line, full_lines, full_text, full_content}
 use Rattle.irr_full_text.specs.Lines.{AreInList, head_text, arm_words, arm_text, star_text, generator_text, trace_word, matrix_text, representation_text}
-use Rattle.irr_full_text.specs.Reading.{Reading, Readings, ArePrintable}
+use Rattle.irr_full_text.specs.Reading.{Readings, ArePrintable}
 use Rattle.irr_full_text.specs.Printed.{Matrices, IsPrintedStar, AreFullsOf}
 use Rattle.irr_full_text.proofs.FirstArms.{first_arm, first_wave}
 use Rattle.irr_full_text.proofs.Texts.{numbered-map}
@@ -169,9 +169,10 @@ module _ {X : Type 0} {V : Ghosts X} (group : Group) (arms : List Arm) (t : Twis
   pub along : (m : Fin L.count) (f : Full X V) (ops : List Op) → ArePrintable group ops → ArePrintable (get_or fulls (to_nat m) f).group ops
   along m f ops all i d l =
       let full = get_or fulls (to_nat m) f in
-      let q = (are.induced m f).same in
-      (same_member full.group group (record { ops = sym q.ops; centrings = sym q.centrings; phase = sym q.phase }) (operation (get_or ops i d)) (all i d l).0,
-      (all i d l).1)
+      let q = (are.induced m f).same in (
+        same_member full.group group (record { ops = sym q.ops; centrings = sym q.centrings; phase = sym q.phase }) (operation (get_or ops i d)) (all i d l).0,
+        (all i d l).1,
+      )
 
   abbrev pub readings_of : Readings order group.ops.items gens fulls
   readings_of = record {

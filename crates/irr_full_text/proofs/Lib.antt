@@ -8,3 +8,4 @@ pub mod Translations
 pub mod FirstArms
 pub mod Contents
 pub mod CompleteContents
+pub mod Along

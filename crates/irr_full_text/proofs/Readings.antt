@@ -2,8 +2,6 @@
 --   represented             the value is a full representation
 --   item_is, printable_at   an item of a list
 use Rattle.std.proofs.Common.{◌≡◌, sym, ◌∙◌, ap, subst, ℕ, ◌<◌, List, length, get_or}
-use Rattle.std.specs.List.{All}
-use Rattle.irr_algebra.specs.Fin.{Fin, to_nat}
 use Rattle.irr_seitz.specs.declared.op.Op.{Op}
 use Rattle.irr_cyc.specs.declared.scalars.Scalar.{Ghosts}
 use Rattle.irr_close.specs.declared.group.Group.{Group}

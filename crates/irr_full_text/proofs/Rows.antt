@@ -1,7 +1,7 @@
 -- The blocks of a full representation as the rows that are printed.
 --   piece_at, block_piece     one block of the rows of blocks
 --   blocks_of                 the rows of blocks at an operation
-use Rattle.std.proofs.Common.{◌≡◌, sym, ◌∙◌, ap, subst, ℕ, ◌<◌, List, length, get_or}
+use Rattle.std.proofs.Common.{◌≡◌, sym, ◌∙◌, ap, subst, ℕ, List, get_or}
 use Rattle.irr_algebra.specs.Fin.{Fin, to_nat}
 use Rattle.irr_algebra.specs.Matrix.{scale}
 use Rattle.irr_algebra.proofs.Indices.{to_nat_inj}

@@ -4,10 +4,10 @@
 --   numbered-map           numbered texts of the images of items
 --   head-parts, matrix-parts, representation-parts     the parts of lines
 --   arm_inside, listed_item    the operation of an arm
-use Rattle.std.proofs.Common.{◌≡◌, sym, ◌∙◌, ap, ap₂, subst, refl, ℕ, zero, suc, ◌+◌, ◌<◌, List, ◌∷◌, [], ◌++◌, append_assoc, length, map, get_or, arith}
+use Rattle.std.proofs.Common.{◌≡◌, sym, ◌∙◌, ap, subst, refl, ℕ, zero, suc, ◌<◌, List, ◌∷◌, [], ◌++◌, append_assoc, length, map, get_or}
 use Rattle.std.specs.Prelude.{codes}
 use Rattle.std.proofs.lemmas.List.{get_or_default}
-use Rattle.irr_algebra.specs.Fin.{Fin, to_nat}
+use Rattle.irr_algebra.specs.Fin.{Fin}
 use Rattle.irr_algebra.specs.Fin.Fin.{first, next}
 use Rattle.irr_algebra.specs.Matrix.{Matrix}
 use Rattle.irr_algebra.specs.Pair.{times, plus, pair, left, right}

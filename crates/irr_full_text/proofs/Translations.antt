@@ -9,18 +9,17 @@
 --   generators_are, generators_printable     all generators
 use Rattle.std.proofs.Common.{◌≡◌, sym, ◌∙◌, ap, ap₂, subst, refl, ℕ, ℤ, pos, zero, suc, ◌+◌, ◌*◌, ◌<◌, ◌≤◌, List, [], ◌∷◌, ◌++◌, append_assoc, length, map, take, drop, get_or, unsigned_abs, arith}
 use Rattle.std.specs.List.{All}
-use Rattle.std.specs.Prelude.{Contains}
 use Rattle.std.proofs.lemmas.List.{map-append, take_more, get_or-map, length-map, get_or_default}
 use Rattle.std.proofs.lemmas.List.Elements.{All-nil, All-cons, All-append, All-drop, All-map}
 use native.Mathlib.Nat as Nat
 use Rattle.irr_algebra.specs.Fin.{Fin, to_nat}
 use Rattle.irr_algebra.specs.Fin.Fin.{first, next}
-use Rattle.irr_algebra.specs.Matrix.{column, unit, ◌⊖◌, null}
+use Rattle.irr_algebra.specs.Matrix.{column, unit, ◌⊖◌}
 use Rattle.irr_algebra.specs.Sum.{delta}
 use Rattle.irr_algebra.proofs.Matrices.{sub_self}
 use Rattle.irr_rational.specs.Integer.{integer}
 use Rattle.irr_rational.specs.Rational.{rationals, ratio, IsWhole}
-use Rattle.irr_rational.specs.Ratio.{entry, AreLowest}
+use Rattle.irr_rational.specs.Ratio.{entry}
 use Rattle.irr_rational.proofs.Integers.{integer-one}
 use Rattle.irr_rational.proofs.ListedRatios.{ratios-at}
 use Rattle.irr_rational.proofs.Orders.{ratio-zero}
@@ -35,7 +34,6 @@ use Rattle.irr_seitz.specs.Rotation.{rotation_of}
 use Rattle.irr_seitz.specs.OperationMeaning.{operation}
 use Rattle.irr_seitz.specs.declared.op.Op.{Op}
 use Rattle.irr_seitz.proofs.Orders.{unit_rotation}
-use Rattle.irr_kvec.specs.Centrings.{AreCentrings}
 use Rattle.irr_close.specs.Whole.{IsWholeVector}
 use Rattle.irr_close.specs.Centring.{HasTranslation}
 use Rattle.irr_close.specs.StandsFor.{stands_for}
@@ -151,8 +149,12 @@ module _ (group : Group) where
       unit_member i = translation_member (column (unit rationals 3) i) ((form_of group).lattice.whole (column (unit rationals 3) i) (unit_whole i))
 
   centrings_members : All (λ c. stands_for group (translation (vector c))) group.centrings.items
-  centrings_members k d l = translation_member (vector (get_or group.centrings.items k d)) (k, l, λ e. subst IsWholeVector
-      (sym (ap (λ (c : Vec3). vector (get_or group.centrings.items k d) ⊖ vector c) (default k e d l) ∙ sub_self (vector (get_or group.centrings.items k d)))) null_whole)
+  centrings_members k d l = translation_member (vector (get_or group.centrings.items k d)) (
+    k,
+    l,
+    λ e. subst IsWholeVector
+        (sym (ap (λ (c : Vec3). vector (get_or group.centrings.items k d) ⊖ vector c) (default k e d l) ∙ sub_self (vector (get_or group.centrings.items k d)))) null_whole,
+  )
     where
       default : (k : ℕ) (e d : Vec3) → k < length group.centrings.items → get_or group.centrings.items k e ≡ get_or group.centrings.items k d
       default k e d l = get_or_default group.centrings.items k e d l
@@ -202,8 +204,10 @@ module _ (group : Group) where
         of_map xs all k d l = subst (stands_for group) (get_or-map operation xs k d (operation d) l) (all k (operation d) (subst (λ n. k < n) (sym (length-map xs operation)) l))
 
     pub generators_printable : All HasSmallVector more → ArePrintable group (more ++ drop 1 group.ops.items)
-    generators_printable small k d l = (members k d l,
-        All-append HasSmallVector more (drop 1 group.ops.items) small (All-drop HasSmallVector 1 group.ops.items small_operations) k d l)
+    generators_printable small k d l = (
+      members k d l,
+      All-append HasSmallVector more (drop 1 group.ops.items) small (All-drop HasSmallVector 1 group.ops.items small_operations) k d l,
+    )
 
 pub small_translation : (num : List ℤ) (den : ℕ) → 0 < den → IsInCell (vector_of num den) → (i : Fin 3) → unsigned_abs (entry num i) ≤ 100000 * den
 small_translation num den h cell i = let l : unsigned_abs (entry num i) ≤ den = small_numerators num den h cell i in omega (arith, l)

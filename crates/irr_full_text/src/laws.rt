@@ -1,12 +1,13 @@
 // Laws of the contents of the text.
-ghost use Rattle.std.specs.Prelude.{List};
+ghost use Rattle.std.specs.Prelude.{List, ◌↔◌};
 ghost use Rattle.std.specs.Int.{◌∣◌};
 ghost use Rattle.irr_algebra.specs.Fin.{Fin};
 ghost use Rattle.irr_algebra.specs.Pair.{times};
 ghost use Rattle.irr_theory.specs.Representations.{Representations};
 ghost use Rattle.irr_space.specs.Operation.{Operation, WaveVector};
 ghost use Rattle.irr_space.specs.CanonicalOperation.{IsNumbering};
-ghost use Rattle.irr_space.specs.Reciprocal.{IsReduced};
+ghost use Rattle.irr_space.specs.Reciprocal.{IsReduced, Sign};
+ghost use Rattle.irr_space.specs.SpaceGroup.{Generated};
 ghost use Rattle.irr_space.specs.PhaseTable.{phases_at};
 ghost use Rattle.irr_space.specs.CompleteList.{IsCompleteList, IsInOrder, over};
 ghost use Rattle.irr_seitz.specs.PhaseMeaning.{sign_of};
@@ -22,7 +23,7 @@ ghost use Rattle.irr_little.specs.declared.arms.Arm.{Arm};
 ghost use Rattle.irr_full.specs.Star.{Star};
 ghost use Rattle.irr_full.specs.Full.{IsFullOf};
 ghost use Rattle.irr_star.specs.Stars.{IsStarOf, star_of};
-ghost use Rattle.irr_full_text.specs.FullText.{AreGeneratorsOf, IsFullContent, full_content};
+ghost use Rattle.irr_full_text.specs.FullText.{AreGeneratorsOf, FullContent, IsFullContent, full_content};
 ghost use Rattle.irr_full_text.specs.Printed.{Matrices, IsPrintedStar};
 
 /// The star of a reduced wave vector, with the table of its little group, is one that is printed.
@@ -48,4 +49,10 @@ pub fn contents_of_complete_lists()
         → (v : U.table.order ∣ U.table.order) → ((m : Fin L.count) → IsFullOf U U.table.order v (over U.table U.table.order v (L.member m)) (A m))
         → (generators : List Operation) → AreGeneratorsOf (stands_for group) U.canonical generators
         → IsFullContent (sign_of group.phase) (stands_for group) k (full_content k U generators (λ m. times U.arms (L.size m)) A) }
+{}
+
+/// A content for a group in the program is one for each generated group with the same operations.
+pub fn contents_of_generated_groups()
+    ensures { (group : Group) (generators : List Operation) → ((g : Operation) → stands_for group g ↔ Generated generators g)
+        → (s : Sign) (k : WaveVector) (c : FullContent) → IsFullContent s (stands_for group) k c → IsFullContent s (Generated generators) k c }
 {}

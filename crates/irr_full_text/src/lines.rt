@@ -22,7 +22,12 @@ pub(crate) fn head(alloc: Global, wave: &Wave, order: u32, count: usize) -> Resu
 }
 
 /// Appends the lines of arms, whose operations are those with their numbers. The error is want of memory.
-pub(crate) fn push_arms(alloc: Global, text: &mut Vec<u8>, ops: &[Op], arms: &[Arm]) -> Result<(), Memory>
+pub(crate) fn push_arms(
+    alloc: Global,
+    text: &mut Vec<u8>,
+    ops: &[Op],
+    arms: &[Arm],
+) -> Result<(), Memory>
     requires { AreInList ops.now arms.now }
     ensures { (d : Op) → OnOk result (text.new.items ≡ text.old.items ++ numbered (arm_text ops.now d) 1 arms.now) }
 {

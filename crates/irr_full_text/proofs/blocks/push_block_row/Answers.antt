@@ -1,10 +1,10 @@
 -- One more entry.
-use Rattle.std.proofs.Common.{◌≡◌, ◌∙◌, ◌++◌, ◌<◌, ◌≤◌, ap, sym, subst, refl, length, List, ℕ, rules}
+use Rattle.std.proofs.Common.{◌∙◌, ◌++◌, ◌<◌, ◌≤◌, ap, sym, subst, refl, List, ℕ, rules}
 use Rattle.irr_algebra.specs.Fin.{Fin}
 use Rattle.irr_algebra.proofs.Indices.{from_nat, to_nat-from_nat}
 use Rattle.irr_full_text.specs.Lines.{number_word}
 use Rattle.irr_full_text.proofs.FirstPieces.{pieces_none, pieces_step, pieces_all}
-use Rattle.irr_full_text.proofs.Entries.{piece_inside, piece_rows, piece_cols, piece_order, piece_denominator, piece_size, piece_word, piece_below}
+use Rattle.irr_full_text.proofs.Entries.{piece_inside, piece_rows, piece_cols, piece_order, piece_denominator, piece_size, piece_word}
 use Rattle.irr_full_text.proofs.blocks.push_block_row.Goals as goal
 
 pub index-matrix-requires : goal.index-matrix-requires

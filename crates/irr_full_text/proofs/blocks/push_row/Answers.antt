@@ -1,5 +1,5 @@
 -- One more block.
-use Rattle.std.proofs.Common.{◌≡◌, ◌∙◌, ◌++◌, ◌<◌, ◌≤◌, ap, sym, subst, List, ℕ}
+use Rattle.std.proofs.Common.{◌∙◌, ◌<◌, ◌≤◌, subst}
 use Rattle.irr_algebra.specs.Fin.{Fin}
 use Rattle.irr_algebra.proofs.Indices.{from_nat, to_nat-from_nat}
 use Rattle.irr_text.specs.ReportText.{pieces}

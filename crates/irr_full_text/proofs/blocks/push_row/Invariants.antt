@@ -2,7 +2,7 @@
 use Rattle.std.proofs.Common.{◌≡◌, ◌++◌}
 use Rattle.irr_algebra.specs.Fin.{Fin, to_nat}
 use Rattle.irr_text.specs.ReportText.{pieces}
-use Rattle.irr_full_text.specs.Lines.{number_word, row_text}
+use Rattle.irr_full_text.specs.Lines.{number_word}
 use Rattle.irr_full_text.specs.Reading.{BlockRows}
 use Rattle.irr_full_text.proofs.FirstPieces.{first_pieces}
 use Rattle.irr_full_text.proofs.blocks.push_row.Given as goal

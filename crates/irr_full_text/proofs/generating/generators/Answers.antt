@@ -1,7 +1,7 @@
 -- All of them.
-use Rattle.std.proofs.Common.{◌≡◌, ◌∙◌, sym, ap, subst, ◌++◌, List, drop, map}
+use Rattle.std.proofs.Common.{◌∙◌, sym, ap, subst, ◌++◌, List, drop, map}
 use Rattle.std.specs.List.{All}
-use Rattle.irr_space.specs.Operation.{Operation, translation}
+use Rattle.irr_space.specs.Operation.{translation}
 use Rattle.irr_space.specs.CanonicalOperation.{IsInCell}
 use Rattle.irr_seitz.specs.OperationMeaning.{operation}
 use Rattle.irr_seitz.specs.declared.op.Op.{Op}

@@ -1,5 +1,5 @@
 -- The star of the lists has the operations of the group.
-use Rattle.std.proofs.Common.{◌≡◌, sym, ap, refl}
+use Rattle.std.proofs.Common.{ap, refl}
 use Rattle.std.proofs.lemmas.List.{get_or_default}
 use Rattle.irr_algebra.specs.Fin.{to_nat}
 use Rattle.irr_algebra.proofs.Indices.{to_nat-lt}

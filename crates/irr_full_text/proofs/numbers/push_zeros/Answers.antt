@@ -1,5 +1,5 @@
 -- One more zero.
-use Rattle.std.proofs.Common.{◌≡◌, ◌∙◌, ◌++◌, ap, sym, subst, ◌<◌, ◌≤◌, arith}
+use Rattle.std.proofs.Common.{◌∙◌, ◌++◌, ap, sym, subst, ◌<◌, ◌≤◌}
 use Rattle.irr_algebra.specs.Fin.{Fin}
 use Rattle.irr_algebra.proofs.Indices.{from_nat, to_nat-from_nat}
 use Rattle.irr_number.specs.Number.{numbers}

@@ -20,7 +20,7 @@ returns g c = λ e.
     let traces = line (codes "char" ++ flat_map (trace_word e.number e.matrix) c.args.ops.now) in
     let matrices = numbered (matrix_text e.number e.matrix) 1 c.args.gens.now in
     let dim : c.dim-dim.result ≡ times e.star.arms e.size = c.dim-dim.ensures.dim e.group e.wave e.star e.number e.divides e.size e.small e.induced
-        ∙ sym (times-mul e.star.arms e.size) in
+    ∙ sym (times-mul e.star.arms e.size) in
     c.in_ok-push_matrices.ensures e ∙ ap (λ (t : List ℕ). t ++ matrices) (c.in_ok-push_traces.ensures e
     ∙ ap (λ (t : List ℕ). t ++ traces) (c.in_ok-extend_from_slice.ensures.items
     ∙ ap (λ (t : List ℕ). old ++ t) (c.as_bytes.ensures.value ∙ c.in_ok-format.ensures.ok

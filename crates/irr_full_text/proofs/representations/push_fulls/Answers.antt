@@ -1,6 +1,6 @@
 -- One more representation.
-use Rattle.std.proofs.Common.{◌≡◌, ◌∙◌, ◌++◌, ◌<◌, ◌≤◌, ◌+◌, sym, ap, subst, List, ℕ, suc, get_or, arith}
-use Rattle.irr_algebra.specs.Fin.{Fin, to_nat}
+use Rattle.std.proofs.Common.{◌≡◌, ◌∙◌, ◌++◌, ◌<◌, ◌≤◌, ◌+◌, sym, ap, subst, List, ℕ, suc, arith}
+use Rattle.irr_algebra.specs.Fin.{to_nat}
 use Rattle.irr_algebra.proofs.Indices.{from_nat, to_nat-from_nat}
 use Rattle.irr_star.specs.declared.full.Full.{Full}
 use Rattle.irr_full_text.specs.Lines.{representation_text}
@@ -54,8 +54,8 @@ loop-i-preserved g c = λ e.
     let m = from_nat e.count c.loop-i.i inside in
     let is = to_nat-from_nat e.count c.loop-i.i inside in
     let told = subst (λ (f : Full _ _). (r : Reading f) → c.push_full.new.text.items ≡ c.loop-i.text.items
-        ++ representation_text r.number r.matrix c.args.ops.now c.args.gens.now (c.loop-i.i + 1))
-        (sym (item_is c.args.fulls.now c.loop-i.i x (to_nat m) c.index-fulls-i.is is)) c.in_ok-push_full.ensures in
+    ++ representation_text r.number r.matrix c.args.ops.now c.args.gens.now (c.loop-i.i + 1))
+    (sym (item_is c.args.fulls.now c.loop-i.i x (to_nat m) c.index-fulls-i.is is)) c.in_ok-push_full.ensures in
     told (e.reading m x)
     ∙ ap (λ n. c.loop-i.text.items ++ representation_text (e.reading m x).number (e.reading m x).matrix c.args.ops.now c.args.gens.now n) (plus_one c.loop-i.i (to_nat m) is)
     ∙ ap (λ (w : List ℕ). c.loop-i.text.items ++ w) (sym (e.is_text m x))

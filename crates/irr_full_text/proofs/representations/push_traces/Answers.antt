@@ -1,5 +1,5 @@
 -- One more trace.
-use Rattle.std.proofs.Common.{◌≡◌, ◌∙◌, ◌++◌, sym, ap, subst, List, ℕ, [], ◌∷◌, append-nil}
+use Rattle.std.proofs.Common.{◌∙◌, ◌++◌, sym, ap, List, ℕ, [], ◌∷◌, append-nil}
 use Rattle.std.specs.Prelude.{codes}
 use Rattle.std.specs.List.{flat_map}
 use Rattle.std.proofs.lemmas.List.{take_all}

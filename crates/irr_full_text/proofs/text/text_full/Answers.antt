@@ -48,8 +48,8 @@ returns g c = λ k U v L A is are.
     let filled = c.push_fulls.new.text.items in
     let count : c.len-count.result ≡ length gens = (let l = c.len-count.ensures in search rules) in
     let told = subst (λ (xs : List Op). (e : Readings n group.ops.items xs c.args.fulls.now) → filled ≡ counted ++ pieces e.count e.text) c.deref-3.ensures.value
-        (subst (λ (xs : List Op). (e : Readings n xs c.deref-3.result.now c.args.fulls.now) → filled ≡ counted ++ pieces e.count e.text) c.ops.ensures.list
-        c.in_ok-push_fulls.ensures) in
+    (subst (λ (xs : List Op). (e : Readings n xs c.deref-3.result.now c.args.fulls.now) → filled ≡ counted ++ pieces e.count e.text) c.ops.ensures.list
+    c.in_ok-push_fulls.ensures) in
     record {
       generators = map operation gens;
       are_generators = c.in_ok-gens.ensures.generators U.count U.canonical is.count is.canonical;
