@@ -1,0 +1,11 @@
+pub mod FirstPieces
+pub mod Texts
+pub mod Turns
+pub mod Entries
+pub mod Rows
+pub mod Readings
+pub mod Translations
+pub mod FirstArms
+pub mod Contents
+pub mod CompleteContents
+pub mod Along

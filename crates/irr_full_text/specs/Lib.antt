@@ -1,0 +1,4 @@
+pub mod FullText
+pub mod Lines
+pub mod Reading
+pub mod Printed
