@@ -10,7 +10,8 @@ item [] i = elim i [ ]
 item (x ∷ xs) first = x
 item (x ∷ xs) (next i) = item xs i
 
-pub record IsListing {X J : Type 0} (value : J → X) (holds_at : J → Type 0) (before : J → J → Type 0) (xs : List X) : Type 0 where
+pub record IsListing {X J : Type 0} (value : J → X) (holds_at : J → Type 0) (before : J → J → Type 0)
+    (xs : List X) : Type 0 where
   pub index : Fin (length xs) → J
   pub is : (t : Fin (length xs)) → item xs t ≡ value (index t)
   pub holds : (t : Fin (length xs)) → holds_at (index t)

@@ -1,10 +1,11 @@
 -- Representations of space groups, given by their stars and the traces of their parts.
---   SpaceRepresentation        a representation of a space group, over the numbers of one order, diagonal at the translations
---   StarOn s G k T a           what makes a star of k with the table T and a arms
---   star_on S                  that star
---   IsTraced A c traces        at the representative of the star c, whose complete list in canonical order has these characters, the part
---                              of A has these traces
---   AreTraced A stars traces   so at each of the stars, on which A stands, by wave vector
+--   SpaceRepresentation          a representation of a space group, over the numbers of one order, diagonal at translations
+--   StarOn s G k T a             what makes a star of k with the table T and a arms
+--   star_on S                    that star
+--   IsTraced .. A c traces       c has the characters of a complete list in canonical order at the representative of a star,
+--                                where the part of A has these traces
+--   traces_at traces i           those at the place i
+--   AreTraced .. A stars traces  so at each of the stars on which A stands, which are in the order of their wave vectors
 use Rattle.std.specs.Prelude.{ℕ, ◌≡◌, ◌<◌, List, [], length, map, slice_index_or, Vec}
 use Rattle.std.specs.Global.{Global}
 use Rattle.irr_algebra.specs.Fin.{Fin, to_nat}
@@ -53,7 +54,8 @@ pub record StarOn (s : Sign) (G : Operation → Type 0) (k : WaveVector) {h : �
   pub numbering : IsNumbering G (IsInLittleGroup G k) operation
   pub is_table : IsTableOf s G k operation T
 
-abbrev pub star_on : {s : Sign} {G : Operation → Type 0} {k : WaveVector} {h : ℕ} {T : PhaseTable h} {a : ℕ} → StarOn s G k T a → Star s G k
+abbrev pub star_on : {s : Sign} {G : Operation → Type 0} {k : WaveVector} {h : ℕ} {T : PhaseTable h} {a : ℕ}
+    → StarOn s G k T a → Star s G k
 star_on {h = h} {T = T} {a = a} S = record {
   count = S.count;
   canonical = S.canonical;
@@ -90,5 +92,6 @@ pub record AreTraced {S : Type 0} (order : S → ℕ) (value : (n : ℕ) → S �
   pub star : (i : Fin (length stars)) → IsTraced order value A (item stars i) (traces_at traces (to_nat i))
   pub ordered : (i j : Fin (length stars)) → to_nat i < to_nat j
       → IsBelow (wave_component (wave_vector (item stars i).wave)) (wave_component (wave_vector (item stars j).wave))
-  pub all : (j : Fin A.size) → (i : Fin (length stars)) × (l : WaveVector) × IsInStar (Generated A.generators) (wave_vector (item stars i).wave) l
+  pub all : (j : Fin A.size) → (i : Fin (length stars)) × (l : WaveVector)
+      × IsInStar (Generated A.generators) (wave_vector (item stars i).wave) l
       × HasPhase A.sign (Generated A.generators) l A.order A.at j

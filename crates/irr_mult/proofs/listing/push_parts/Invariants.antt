@@ -9,6 +9,8 @@ use Rattle.irr_mult.proofs.StarListings.{SoFar}
 use Rattle.irr_mult.proofs.listing.push_parts.Given as goal
 
 abbrev pub invariant-loop-i : goal.invariant-loop-i
-invariant-loop-i g l = (M : ℕ) (h : HasCharacters g.S.Scalar.order_of g.S.Scalar.value M l.star) (r : IsPartRow h l.traces) (mult : Fin h.list.count → ℕ)
-    (dimension : (m : Fin h.list.count) → HasDimension (over (phase_table l.star.table) M h.divides (h.list.member m)).at r.part.at (mult m))
+invariant-loop-i g l = (M : ℕ) (h : HasCharacters g.S.Scalar.order_of g.S.Scalar.value M l.star)
+    (r : IsPartRow h l.traces) (mult : Fin h.list.count → ℕ)
+    (dimension : (m : Fin h.list.count) → HasDimension (over (phase_table l.star.table) M h.divides
+    (h.list.member m)).at r.part.at (mult m))
     → SoFar g.S.Scalar.order_of g.S.Scalar.value h r mult dimension l.fn.parts.items l.i l.parts.items
