@@ -1,0 +1,15 @@
+//! The parts of representations of space groups: how often the full representation of each small one stands in one.
+#![tactic(auto)]
+
+mod dimension;
+mod error;
+mod listing;
+mod part;
+mod star;
+
+pub use dimension::multiplicity;
+pub use error::WorkError;
+pub use irr_memory::Memory;
+pub use listing::{all_parts, push_parts};
+pub use part::{PairParts, Part, RepParts};
+pub use star::{SmallCharacter, StarCharacters};
