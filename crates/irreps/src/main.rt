@@ -1,5 +1,5 @@
-//! Irreducible representations of space groups: `irreps small K` reads the generators of a space group
-//! from standard input, and writes the report of its small representations at the wave vector K.
+//! Irreducible representations of space groups: the words of the command line are a command, as `small K`,
+//! and standard input has the generators of a space group; `run` says what is written and how it ends.
 #![tactic(auto)]
 
 use irr_io::{StdSink, StdSource};
