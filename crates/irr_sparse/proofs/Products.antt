@@ -3,9 +3,9 @@
 --   product-start, product-next, product-end    one row after another
 --   terms-scaled, total-scaled            multiples
 --   combined-next, combined-end           combinations
-use Rattle.std.proofs.Common.{◌≡◌, ◌≢◌, sym, ◌∙◌, ap, ap₂, ℕ, ℤ, suc, pos, ◌+◌, ◌*◌, ◌^◌, ◌<◌, ◌≤◌, ◌*ℤ◌, List, [], ◌∷◌, ◌++◌, take, drop, map, length, unsigned_abs, All, arith}
+use Rattle.std.proofs.Common.{subst, ◌≡◌, ◌≢◌, sym, ◌∙◌, ap, ap₂, ℕ, ℤ, suc, pos, ◌+◌, ◌*◌, ◌^◌, ◌<◌, ◌≤◌, ◌*ℤ◌, List, [], ◌∷◌, ◌++◌, take, drop, map, length, unsigned_abs, All, arith}
 use Rattle.std.proofs.lemmas.Int.{unsigned_abs-mul}
-use Rattle.std.proofs.lemmas.List.{take_all, take_more}
+use Rattle.std.proofs.lemmas.List.{nil_from_length, take_all, take_more}
 use Rattle.std.proofs.lemmas.List.Elements.{All-from_get_or, All-weaker}
 use Rattle.std.proofs.lemmas.List.Sums.{get_or-le-sum_by, sum_by-cons, sum_by-take-le, sum_by_more}
 use Rattle.std.proofs.Math.Seq.{take-append_seam}
@@ -13,13 +13,14 @@ use native.Mathlib.Nat as Nat
 use Rattle.irr_algebra.specs.Ring.{Ring}
 use Rattle.irr_algebra.proofs.Rings.{one-mul, ring_laws, zero-add, zero-mul}
 use Rattle.irr_number.specs.Number.{Number, numbers, root_power}
+use Rattle.irr_number.proofs.RootPowers.{root_power-zero}
 use Rattle.irr_rational.specs.Integer.{integer}
 use Rattle.irr_rational.proofs.Integers.{integer-mul, integer-one}
 use Rattle.irr_cyc.specs.Terms.{terms_sum}
 use Rattle.irr_sparse.specs.TermList.{AreTerms, IsTerm, coefficient_at, exponent_at, row_sum, total}
 use Rattle.irr_sparse.proofs.Lists.{terms-at, terms-cons, terms-head, terms-none, terms-tail}
 use Rattle.irr_sparse.proofs.Rows.{product-ne-zero}
-use Rattle.irr_sparse.proofs.Sums.{row-product, sum-more, sum-none, term_value}
+use Rattle.irr_sparse.proofs.Sums.{row-product, sum-cons, sum-more, sum-none, sum-scaled, term_value}
 use Rattle.irr_sparse.proofs.Values.{exponents-below}
 
 pub each-inside : (n b : ℕ) (ts : List (ℕ × ℤ)) → AreTerms n b ts → All (λ t. 1 * t.0 < n) ts
@@ -111,8 +112,8 @@ module _ (ts : List (ℕ × ℤ)) (m i : ℕ) (lt : i < length ts) where
   pub combined-most : (old now new a : ℕ) → a ≡ unsigned_abs (coefficient_at ts i) * m → now ≤ old + total (take i ts) * m → new ≤ now + a → new ≤ old + total (take (i + 1) ts) * m
   combined-most old now new a e h g = omega (arith, ap (λ x. x * m) at_more, e, h, g)
 
-  pub combined-small : (old now a start : ℕ) → a ≡ unsigned_abs (coefficient_at ts i) * m → now ≤ old + total (take i ts) * m → old ≡ start → start + total ts * m < 2 ^ 110 → now + a < 2 ^ 126
-  combined-small old now a start e h s small = omega (arith, ap (λ x. x * m) at_more, Nat.mul-le-mul_right m more_le, e, h, s, small)
+  pub combined-small : (old now a : ℕ) → a ≡ unsigned_abs (coefficient_at ts i) * m → now ≤ old + total (take i ts) * m → old + total ts * m < 2 ^ 126 → now + a < 2 ^ 126
+  combined-small old now a e h small = omega (arith, ap (λ x. x * m) at_more, Nat.mul-le-mul_right m more_le, e, h, small)
 
 module _ (ts : List (ℕ × ℤ)) where
   pub collected-small : (now i w : ℕ) → i < length ts → w ≤ 12000 → total ts ≤ 2 ^ 100 → now ≤ total (take i ts) * w → now + unsigned_abs (coefficient_at ts i) * w < 2 ^ 126
@@ -136,3 +137,31 @@ collected-end n ts i le = ap (terms_sum n) (take_all i ts le)
 -- a vector whose slice was written holds what was written
 pub written-terms : (items new : List (ℕ × ℤ)) (count : ℕ) → length new ≡ count → take count (new ++ drop (length new) items) ≡ new
 written-terms items new count e = ap (λ n. take n (new ++ drop (length new) items)) (sym e) ∙ take-append_seam new (drop (length new) items)
+
+-- a product with nothing
+pub nothing-left : (n : ℕ) (xs ys zs : List (ℕ × ℤ)) → length xs ≡ 0 → zs ≡ [] → terms_sum n zs ≡ (numbers n).mul (terms_sum n xs) (terms_sum n ys)
+nothing-left n xs ys zs e z = ap (terms_sum n) z ∙ sum-none n
+    ∙ sym (ap (λ (ts : List (ℕ × ℤ)). (numbers n).mul (terms_sum n ts) (terms_sum n ys)) (nil_from_length xs e) ∙ ap (λ x. (numbers n).mul x (terms_sum n ys)) (sum-none n) ∙ zero-mul (numbers n) (terms_sum n ys))
+
+pub nothing-right : (n : ℕ) (xs ys zs : List (ℕ × ℤ)) → length ys ≡ 0 → zs ≡ [] → terms_sum n zs ≡ (numbers n).mul (terms_sum n xs) (terms_sum n ys)
+nothing-right n xs ys zs e z = nothing-left n ys xs zs e z ∙ (numbers n).mul_comm (terms_sum n ys) (terms_sum n xs)
+
+-- one rational term
+pub rational-sum : (n : ℕ) (xs : List (ℕ × ℤ)) → length xs ≡ 1 → exponent_at xs 0 ≡ 0 → terms_sum n xs ≡ integer (numbers n) (coefficient_at xs 0)
+rational-sum n [] e z = absurd (omega arith)
+rational-sum n (t ∷ []) e z = sum-cons n t [] ∙ ap ((numbers n).add (term_value n t.0 t.1)) (sum-none n) ∙ (numbers n).add-zero (term_value n t.0 t.1)
+    ∙ ap (λ j. term_value n j t.1) z ∙ ap ((numbers n).mul (integer (numbers n) t.1)) (root_power-zero n) ∙ (numbers n).mul-one (integer (numbers n) t.1)
+rational-sum n (t ∷ u ∷ ts) e z = absurd (omega arith)
+
+pub rational-product : (n : ℕ) (xs ys zs : List (ℕ × ℤ)) (k : ℤ) → length xs ≡ 1 → exponent_at xs 0 ≡ 0 → k ≡ coefficient_at xs 0 → zs ≡ map (λ (t : ℕ × ℤ). (t.0, t.1 *ℤ k)) ys
+    → terms_sum n zs ≡ (numbers n).mul (terms_sum n xs) (terms_sum n ys)
+rational-product n xs ys zs k e z ek is = ap (terms_sum n) is ∙ sum-scaled n k ys ∙ ap (λ x. (numbers n).mul x (terms_sum n ys)) (ap (integer (numbers n)) ek ∙ sym (rational-sum n xs e z))
+
+pub rational-terms : (n : ℕ) (xs ys zs : List (ℕ × ℤ)) (k : ℤ) → length xs ≡ 1 → AreTerms n 0 xs → k ≡ coefficient_at xs 0 → zs ≡ map (λ (t : ℕ × ℤ). (t.0, t.1 *ℤ k)) ys → AreTerms n 0 ys → AreTerms n 0 zs
+rational-terms n xs ys zs k e h ek is g = subst (AreTerms n 0) (sym is) (terms-scaled n 0 k ys (λ z. (terms-at n 0 xs 0 h (omega arith)).nonzero (sym ek ∙ z)) g)
+
+pub rational-small : (xs ys : List (ℕ × ℤ)) (k : ℤ) → length xs ≡ 1 → k ≡ coefficient_at xs 0 → total xs * total ys ≤ 2 ^ 100 → total ys * unsigned_abs k < 2 ^ 126
+rational-small xs ys k e ek h =
+    let le : unsigned_abs (coefficient_at xs 0) ≤ total xs = get_or-le-sum_by (λ (t : ℕ × ℤ). unsigned_abs t.1) xs 0 (0, pos 0) (omega arith) in
+    let s : unsigned_abs k ≡ unsigned_abs (coefficient_at xs 0) = ap unsigned_abs ek in
+    omega (arith, h, ap (λ x. total ys * x) s, Nat.mul-le-mul_left (total ys) le)
