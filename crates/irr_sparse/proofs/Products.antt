@@ -5,7 +5,7 @@
 --   combined-next, combined-end           combinations
 use Rattle.std.proofs.Common.{subst, ◌≡◌, ◌≢◌, sym, ◌∙◌, ap, ap₂, ℕ, ℤ, suc, pos, ◌+◌, ◌*◌, ◌^◌, ◌<◌, ◌≤◌, ◌*ℤ◌, List, [], ◌∷◌, ◌++◌, take, drop, map, length, unsigned_abs, All, arith}
 use Rattle.std.proofs.lemmas.Int.{unsigned_abs-mul}
-use Rattle.std.proofs.lemmas.List.{nil_from_length, take_all, take_more}
+use Rattle.std.proofs.lemmas.List.{drop_more, nil_from_length, take_all, take_more}
 use Rattle.std.proofs.lemmas.List.Elements.{All-from_get_or, All-weaker}
 use Rattle.std.proofs.lemmas.List.Sums.{get_or-le-sum_by, sum_by-cons, sum_by-take-le, sum_by_more}
 use Rattle.std.proofs.Math.Seq.{take-append_seam}
@@ -165,3 +165,60 @@ rational-small xs ys k e ek h =
     let le : unsigned_abs (coefficient_at xs 0) ≤ total xs = get_or-le-sum_by (λ (t : ℕ × ℤ). unsigned_abs t.1) xs 0 (0, pos 0) (omega arith) in
     let s : unsigned_abs k ≡ unsigned_abs (coefficient_at xs 0) = ap unsigned_abs ek in
     omega (arith, h, ap (λ x. total ys * x) s, Nat.mul-le-mul_left (total ys) le)
+
+-- what is left of a list, one term further on
+module _ (ts : List (ℕ × ℤ)) (i : ℕ) (lt : i < length ts) where
+  drop_one : drop i ts ≡ (exponent_at ts i, coefficient_at ts i) ∷ drop (i + 1) ts
+  drop_one = drop_more ts i (0, pos 0) lt
+
+  left-total : total (drop i ts) ≡ unsigned_abs (coefficient_at ts i) + total (drop (i + 1) ts)
+  left-total = ap total drop_one ∙ sum_by-cons (λ (t : ℕ × ℤ). unsigned_abs t.1) (exponent_at ts i, coefficient_at ts i) (drop (i + 1) ts)
+
+  pub below-next : (n : ℕ) (k : ℤ) (start now new : Number n) (c : ℤ) → c ≡ coefficient_at ts i *ℤ k
+      → (numbers n).add now ((numbers n).mul (integer (numbers n) k) (terms_sum n (drop i ts))) ≡ start → new ≡ (numbers n).add now (term_value n (exponent_at ts i) c)
+      → (numbers n).add new ((numbers n).mul (integer (numbers n) k) (terms_sum n (drop (i + 1) ts))) ≡ start
+  below-next n k start now new c ec h g = ap (λ x. (numbers n).add x ((numbers n).mul (integer (numbers n) k) (terms_sum n (drop (i + 1) ts))))
+      (g ∙ ap (λ x. (numbers n).add now ((numbers n).mul x (root_power n (exponent_at ts i)))) (ap (integer (numbers n)) ec ∙ integer-mul (numbers n) (coefficient_at ts i) k))
+      ∙ gather (numbers n) now (integer (numbers n) (coefficient_at ts i)) (integer (numbers n) k) (root_power n (exponent_at ts i)) (terms_sum n (drop (i + 1) ts))
+      ∙ ap (λ x. (numbers n).add now ((numbers n).mul (integer (numbers n) k) x)) (sym (ap (terms_sum n) drop_one ∙ sum-cons n (exponent_at ts i, coefficient_at ts i) (drop (i + 1) ts))) ∙ h
+    where
+      gather : (R : Ring) (now c k z s : R.Carrier) → R.add (R.add now (R.mul (R.mul c k) z)) (R.mul k s) ≡ R.add now (R.mul k (R.add (R.mul c z) s))
+      gather R now c k z s = simp (ring_laws, R)
+
+  pub below-most : (start now new a m : ℕ) → a ≡ unsigned_abs (coefficient_at ts i) * m → now + total (drop i ts) * m ≤ start → new ≤ now + a → new + total (drop (i + 1) ts) * m ≤ start
+  below-most start now new a m e h g = omega (arith, ap (λ x. x * m) left-total, e, h, g)
+
+  pub below-small : (start now a m : ℕ) → a ≡ unsigned_abs (coefficient_at ts i) * m → now + total (drop i ts) * m ≤ start → start < 2 ^ 126 → now + a < 2 ^ 126
+  below-small start now a m e h small = omega (arith, ap (λ x. x * m) left-total, e, h, small)
+
+  pub below-product : (start now m : ℕ) → now + total (drop i ts) * m ≤ start → start < 2 ^ 126 → unsigned_abs (coefficient_at ts i) * m < 2 ^ 127
+  below-product start now m h small = omega (arith, ap (λ x. x * m) left-total, h, small)
+
+-- a term on the left, among those on the right
+module _ (xs : List (ℕ × ℤ)) (i : ℕ) (lt : i < length xs) where
+  pub merge-next : (n : ℕ) (l : ℤ) (rest all mid new : Number n) (c : ℤ) → c ≡ coefficient_at xs i *ℤ l
+      → (numbers n).add mid rest ≡ (numbers n).add ((numbers n).mul (integer (numbers n) l) (terms_sum n (take i xs))) all → new ≡ (numbers n).add mid (term_value n (exponent_at xs i) c)
+      → (numbers n).add new rest ≡ (numbers n).add ((numbers n).mul (integer (numbers n) l) (terms_sum n (take (i + 1) xs))) all
+  merge-next n l rest all mid new c ec h g = ap (λ x. (numbers n).add x rest) (g ∙ ap (λ x. (numbers n).add mid ((numbers n).mul x (root_power n (exponent_at xs i)))) (ap (integer (numbers n)) ec ∙ integer-mul (numbers n) (coefficient_at xs i) l))
+      ∙ apart (numbers n) mid rest ((numbers n).mul ((numbers n).mul (integer (numbers n) (coefficient_at xs i)) (integer (numbers n) l)) (root_power n (exponent_at xs i)))
+      ∙ ap (λ x. (numbers n).add x ((numbers n).mul ((numbers n).mul (integer (numbers n) (coefficient_at xs i)) (integer (numbers n) l)) (root_power n (exponent_at xs i)))) h
+      ∙ gather (numbers n) (integer (numbers n) l) (terms_sum n (take i xs)) all (integer (numbers n) (coefficient_at xs i)) (root_power n (exponent_at xs i))
+      ∙ ap (λ x. (numbers n).add ((numbers n).mul (integer (numbers n) l) x) all) (sym (sum-more n (take i xs) (exponent_at xs i, coefficient_at xs i)) ∙ ap (terms_sum n) (sym (take_more xs i (0, pos 0) lt)))
+    where
+      apart : (R : Ring) (a b t : R.Carrier) → R.add (R.add a t) b ≡ R.add (R.add a b) t
+      apart R a b t = simp (ring_laws, R)
+
+      gather : (R : Ring) (l s all c z : R.Carrier) → R.add (R.add (R.mul l s) all) (R.mul (R.mul c l) z) ≡ R.add (R.mul l (R.add s (R.mul c z))) all
+      gather R l s all c z = simp (ring_laws, R)
+
+  pub merge-most : (rest all mid new a m : ℕ) → a ≡ unsigned_abs (coefficient_at xs i) * m → mid + rest ≤ total (take i xs) * m + all → new ≤ mid + a → new + rest ≤ total (take (i + 1) xs) * m + all
+  merge-most rest all mid new a m e h g = omega (arith, ap (λ x. x * m) (at_more xs m i lt), e, h, g)
+
+  pub merge-small : (rest all mid a m : ℕ) → a ≡ unsigned_abs (coefficient_at xs i) * m → mid + rest ≤ total (take i xs) * m + all → total xs * m + all < 2 ^ 110 → mid + a < 2 ^ 126
+  merge-small rest all mid a m e h small = omega (arith, ap (λ x. x * m) (at_more xs m i lt), Nat.mul-le-mul_right m (more_le xs m i lt), e, h, small)
+
+  pub merge-rest : (rest all mid m : ℕ) → mid + rest ≤ total (take i xs) * m + all → total xs * m + all < 2 ^ 110 → mid + rest < 2 ^ 126
+  merge-rest rest all mid m h small = omega (arith, ap (λ x. x * m) (at_more xs m i lt), Nat.mul-le-mul_right m (more_le xs m i lt), h, small)
+
+  pub merge-product : (all m : ℕ) → total xs * m + all < 2 ^ 110 → unsigned_abs (coefficient_at xs i) * m < 2 ^ 127
+  merge-product all m small = factor-small xs m i lt (omega arith)

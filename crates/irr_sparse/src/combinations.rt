@@ -1,5 +1,5 @@
 //! Terms of powers, sums, products and lifts.
-ghost use Rattle.std.specs.Prelude.{ℕ, ℤ, pos, ◌≡◌, ◌≢◌, ◌+◌, ◌*◌, ◌^◌, ◌<◌, ◌≤◌, ◌*ℤ◌, map, length, All, IfOk, OnOk, IsTrue, sum_by};
+ghost use Rattle.std.specs.Prelude.{ℕ, ℤ, pos, ◌≡◌, ◌≢◌, ◌+◌, ◌*◌, ◌^◌, ◌<◌, ◌≤◌, ◌*ℤ◌, map, drop, length, All, IfOk, OnOk, IsTrue, sum_by};
 ghost use Rattle.std.specs.Int.RustNames.{unsigned_abs};
 ghost use Rattle.irr_number.specs.Number.{numbers, root_power};
 ghost use Rattle.irr_rational.specs.Integer.{integer};
@@ -185,8 +185,37 @@ fn add_multiples(
     Ok(())
 }
 
-/// The terms of `left` times a number and `right` times another, of one order: one allocation, as many steps as
-/// terms on the left, and a search by halves for each on the right.
+// Adds the terms from a place on whose exponents are below a limit, each times a number, and gives the next place.
+fn add_below(
+    sums: &mut Vec<(u32, i128)>,
+    terms: &[(u32, i128)],
+    from: usize,
+    times: i128,
+    limit: u32,
+) -> Result<usize, Memory>
+    requires both { (n : ℕ) × AreTerms n 0 sums.old.items × AreTerms n 0 terms.now }
+    requires within { from ≤ length terms.now }
+    requires nonzero { times ≢ pos 0 }
+    requires small { total sums.old.items + total (drop from terms.now) * unsigned_abs times < 2 ^ 126 }
+    ensures within { IfOk result (λ next. next ≤ length terms.now) }
+    ensures terms { OnOk result ((n : ℕ) → AreTerms n 0 sums.old.items → AreTerms n 0 terms.now → AreTerms n 0 sums.new.items) }
+    ensures sum { IfOk result (λ next. (n : ℕ) → (numbers n).add (terms_sum n sums.new.items) ((numbers n).mul (integer (numbers n) times) (terms_sum n (drop next terms.now))) ≡ (numbers n).add (terms_sum n sums.old.items) ((numbers n).mul (integer (numbers n) times) (terms_sum n (drop from terms.now)))) }
+    ensures total { IfOk result (λ next. total sums.new.items + total (drop next terms.now) * unsigned_abs times ≤ total sums.old.items + total (drop from terms.now) * unsigned_abs times) }
+{
+    let mut next = from;
+    while next < terms.len() {
+        let (exponent, coefficient) = terms[next];
+        if exponent >= limit {
+            return Ok(next);
+        }
+        add_term(sums, exponent, coefficient * times)?;
+        next += 1;
+    }
+    Ok(next)
+}
+
+/// The terms of `left` times a number and `right` times another, of one order, taken in increasing order: one
+/// allocation, and as many steps as terms.
 pub(crate) fn combination(
     alloc: Global,
     xs: &[(u32, i128)],
@@ -202,7 +231,11 @@ pub(crate) fn combination(
     ensures sum { IfOk result (λ v. (n : ℕ) → terms_sum n v.items ≡ (numbers n).add ((numbers n).mul (integer (numbers n) left) (terms_sum n xs.now)) ((numbers n).mul (integer (numbers n) right) (terms_sum n ys.now))) }
 {
     let mut sums = Vec::with_capacity(alloc, xs.len() + ys.len())?;
-    add_multiples(&mut sums, xs, left)?;
-    add_multiples(&mut sums, ys, right)?;
+    let mut from = 0;
+    for (exponent, coefficient) in xs {
+        from = add_below(&mut sums, ys, from, right, *exponent)?;
+        add_term(&mut sums, *exponent, *coefficient * left)?;
+    }
+    add_multiples(&mut sums, &ys[from..], right)?;
     Ok(sums)
 }
