@@ -12,3 +12,4 @@ pub mod Products
 pub mod Divisors
 pub mod Arithmetic
 pub mod FormsOf
+pub mod PowerSizes

@@ -3,9 +3,9 @@
 --   product-start, product-next, product-end    one row after another
 --   terms-scaled, total-scaled            multiples
 --   combined-next, combined-end           combinations
-use Rattle.std.proofs.Common.{◌≡◌, ◌≢◌, sym, ◌∙◌, ap, ap₂, ℕ, ℤ, suc, pos, ◌+◌, ◌*◌, ◌^◌, ◌<◌, ◌≤◌, ◌*ℤ◌, List, [], ◌∷◌, ◌++◌, take, drop, map, length, unsigned_abs, All, arith}
+use Rattle.std.proofs.Common.{subst, ◌≡◌, ◌≢◌, sym, ◌∙◌, ap, ap₂, ℕ, ℤ, suc, pos, ◌+◌, ◌*◌, ◌^◌, ◌<◌, ◌≤◌, ◌*ℤ◌, List, [], ◌∷◌, ◌++◌, take, drop, map, length, unsigned_abs, All, arith}
 use Rattle.std.proofs.lemmas.Int.{unsigned_abs-mul}
-use Rattle.std.proofs.lemmas.List.{take_all, take_more}
+use Rattle.std.proofs.lemmas.List.{drop_more, nil_from_length, take_all, take_more}
 use Rattle.std.proofs.lemmas.List.Elements.{All-from_get_or, All-weaker}
 use Rattle.std.proofs.lemmas.List.Sums.{get_or-le-sum_by, sum_by-cons, sum_by-take-le, sum_by_more}
 use Rattle.std.proofs.Math.Seq.{take-append_seam}
@@ -13,13 +13,14 @@ use native.Mathlib.Nat as Nat
 use Rattle.irr_algebra.specs.Ring.{Ring}
 use Rattle.irr_algebra.proofs.Rings.{one-mul, ring_laws, zero-add, zero-mul}
 use Rattle.irr_number.specs.Number.{Number, numbers, root_power}
+use Rattle.irr_number.proofs.RootPowers.{root_power-zero}
 use Rattle.irr_rational.specs.Integer.{integer}
 use Rattle.irr_rational.proofs.Integers.{integer-mul, integer-one}
 use Rattle.irr_cyc.specs.Terms.{terms_sum}
 use Rattle.irr_sparse.specs.TermList.{AreTerms, IsTerm, coefficient_at, exponent_at, row_sum, total}
 use Rattle.irr_sparse.proofs.Lists.{terms-at, terms-cons, terms-head, terms-none, terms-tail}
 use Rattle.irr_sparse.proofs.Rows.{product-ne-zero}
-use Rattle.irr_sparse.proofs.Sums.{row-product, sum-more, sum-none, term_value}
+use Rattle.irr_sparse.proofs.Sums.{row-product, sum-cons, sum-more, sum-none, sum-scaled, term_value}
 use Rattle.irr_sparse.proofs.Values.{exponents-below}
 
 pub each-inside : (n b : ℕ) (ts : List (ℕ × ℤ)) → AreTerms n b ts → All (λ t. 1 * t.0 < n) ts
@@ -111,8 +112,8 @@ module _ (ts : List (ℕ × ℤ)) (m i : ℕ) (lt : i < length ts) where
   pub combined-most : (old now new a : ℕ) → a ≡ unsigned_abs (coefficient_at ts i) * m → now ≤ old + total (take i ts) * m → new ≤ now + a → new ≤ old + total (take (i + 1) ts) * m
   combined-most old now new a e h g = omega (arith, ap (λ x. x * m) at_more, e, h, g)
 
-  pub combined-small : (old now a start : ℕ) → a ≡ unsigned_abs (coefficient_at ts i) * m → now ≤ old + total (take i ts) * m → old ≡ start → start + total ts * m < 2 ^ 110 → now + a < 2 ^ 126
-  combined-small old now a start e h s small = omega (arith, ap (λ x. x * m) at_more, Nat.mul-le-mul_right m more_le, e, h, s, small)
+  pub combined-small : (old now a : ℕ) → a ≡ unsigned_abs (coefficient_at ts i) * m → now ≤ old + total (take i ts) * m → old + total ts * m < 2 ^ 126 → now + a < 2 ^ 126
+  combined-small old now a e h small = omega (arith, ap (λ x. x * m) at_more, Nat.mul-le-mul_right m more_le, e, h, small)
 
 module _ (ts : List (ℕ × ℤ)) where
   pub collected-small : (now i w : ℕ) → i < length ts → w ≤ 12000 → total ts ≤ 2 ^ 100 → now ≤ total (take i ts) * w → now + unsigned_abs (coefficient_at ts i) * w < 2 ^ 126
@@ -136,3 +137,88 @@ collected-end n ts i le = ap (terms_sum n) (take_all i ts le)
 -- a vector whose slice was written holds what was written
 pub written-terms : (items new : List (ℕ × ℤ)) (count : ℕ) → length new ≡ count → take count (new ++ drop (length new) items) ≡ new
 written-terms items new count e = ap (λ n. take n (new ++ drop (length new) items)) (sym e) ∙ take-append_seam new (drop (length new) items)
+
+-- a product with nothing
+pub nothing-left : (n : ℕ) (xs ys zs : List (ℕ × ℤ)) → length xs ≡ 0 → zs ≡ [] → terms_sum n zs ≡ (numbers n).mul (terms_sum n xs) (terms_sum n ys)
+nothing-left n xs ys zs e z = ap (terms_sum n) z ∙ sum-none n
+    ∙ sym (ap (λ (ts : List (ℕ × ℤ)). (numbers n).mul (terms_sum n ts) (terms_sum n ys)) (nil_from_length xs e) ∙ ap (λ x. (numbers n).mul x (terms_sum n ys)) (sum-none n) ∙ zero-mul (numbers n) (terms_sum n ys))
+
+pub nothing-right : (n : ℕ) (xs ys zs : List (ℕ × ℤ)) → length ys ≡ 0 → zs ≡ [] → terms_sum n zs ≡ (numbers n).mul (terms_sum n xs) (terms_sum n ys)
+nothing-right n xs ys zs e z = nothing-left n ys xs zs e z ∙ (numbers n).mul_comm (terms_sum n ys) (terms_sum n xs)
+
+-- one rational term
+pub rational-sum : (n : ℕ) (xs : List (ℕ × ℤ)) → length xs ≡ 1 → exponent_at xs 0 ≡ 0 → terms_sum n xs ≡ integer (numbers n) (coefficient_at xs 0)
+rational-sum n [] e z = absurd (omega arith)
+rational-sum n (t ∷ []) e z = sum-cons n t [] ∙ ap ((numbers n).add (term_value n t.0 t.1)) (sum-none n) ∙ (numbers n).add-zero (term_value n t.0 t.1)
+    ∙ ap (λ j. term_value n j t.1) z ∙ ap ((numbers n).mul (integer (numbers n) t.1)) (root_power-zero n) ∙ (numbers n).mul-one (integer (numbers n) t.1)
+rational-sum n (t ∷ u ∷ ts) e z = absurd (omega arith)
+
+pub rational-product : (n : ℕ) (xs ys zs : List (ℕ × ℤ)) (k : ℤ) → length xs ≡ 1 → exponent_at xs 0 ≡ 0 → k ≡ coefficient_at xs 0 → zs ≡ map (λ (t : ℕ × ℤ). (t.0, t.1 *ℤ k)) ys
+    → terms_sum n zs ≡ (numbers n).mul (terms_sum n xs) (terms_sum n ys)
+rational-product n xs ys zs k e z ek is = ap (terms_sum n) is ∙ sum-scaled n k ys ∙ ap (λ x. (numbers n).mul x (terms_sum n ys)) (ap (integer (numbers n)) ek ∙ sym (rational-sum n xs e z))
+
+pub rational-terms : (n : ℕ) (xs ys zs : List (ℕ × ℤ)) (k : ℤ) → length xs ≡ 1 → AreTerms n 0 xs → k ≡ coefficient_at xs 0 → zs ≡ map (λ (t : ℕ × ℤ). (t.0, t.1 *ℤ k)) ys → AreTerms n 0 ys → AreTerms n 0 zs
+rational-terms n xs ys zs k e h ek is g = subst (AreTerms n 0) (sym is) (terms-scaled n 0 k ys (λ z. (terms-at n 0 xs 0 h (omega arith)).nonzero (sym ek ∙ z)) g)
+
+pub rational-small : (xs ys : List (ℕ × ℤ)) (k : ℤ) → length xs ≡ 1 → k ≡ coefficient_at xs 0 → total xs * total ys ≤ 2 ^ 100 → total ys * unsigned_abs k < 2 ^ 126
+rational-small xs ys k e ek h =
+    let le : unsigned_abs (coefficient_at xs 0) ≤ total xs = get_or-le-sum_by (λ (t : ℕ × ℤ). unsigned_abs t.1) xs 0 (0, pos 0) (omega arith) in
+    let s : unsigned_abs k ≡ unsigned_abs (coefficient_at xs 0) = ap unsigned_abs ek in
+    omega (arith, h, ap (λ x. total ys * x) s, Nat.mul-le-mul_left (total ys) le)
+
+-- what is left of a list, one term further on
+module _ (ts : List (ℕ × ℤ)) (i : ℕ) (lt : i < length ts) where
+  drop_one : drop i ts ≡ (exponent_at ts i, coefficient_at ts i) ∷ drop (i + 1) ts
+  drop_one = drop_more ts i (0, pos 0) lt
+
+  left-total : total (drop i ts) ≡ unsigned_abs (coefficient_at ts i) + total (drop (i + 1) ts)
+  left-total = ap total drop_one ∙ sum_by-cons (λ (t : ℕ × ℤ). unsigned_abs t.1) (exponent_at ts i, coefficient_at ts i) (drop (i + 1) ts)
+
+  pub below-next : (n : ℕ) (k : ℤ) (start now new : Number n) (c : ℤ) → c ≡ coefficient_at ts i *ℤ k
+      → (numbers n).add now ((numbers n).mul (integer (numbers n) k) (terms_sum n (drop i ts))) ≡ start → new ≡ (numbers n).add now (term_value n (exponent_at ts i) c)
+      → (numbers n).add new ((numbers n).mul (integer (numbers n) k) (terms_sum n (drop (i + 1) ts))) ≡ start
+  below-next n k start now new c ec h g = ap (λ x. (numbers n).add x ((numbers n).mul (integer (numbers n) k) (terms_sum n (drop (i + 1) ts))))
+      (g ∙ ap (λ x. (numbers n).add now ((numbers n).mul x (root_power n (exponent_at ts i)))) (ap (integer (numbers n)) ec ∙ integer-mul (numbers n) (coefficient_at ts i) k))
+      ∙ gather (numbers n) now (integer (numbers n) (coefficient_at ts i)) (integer (numbers n) k) (root_power n (exponent_at ts i)) (terms_sum n (drop (i + 1) ts))
+      ∙ ap (λ x. (numbers n).add now ((numbers n).mul (integer (numbers n) k) x)) (sym (ap (terms_sum n) drop_one ∙ sum-cons n (exponent_at ts i, coefficient_at ts i) (drop (i + 1) ts))) ∙ h
+    where
+      gather : (R : Ring) (now c k z s : R.Carrier) → R.add (R.add now (R.mul (R.mul c k) z)) (R.mul k s) ≡ R.add now (R.mul k (R.add (R.mul c z) s))
+      gather R now c k z s = simp (ring_laws, R)
+
+  pub below-most : (start now new a m : ℕ) → a ≡ unsigned_abs (coefficient_at ts i) * m → now + total (drop i ts) * m ≤ start → new ≤ now + a → new + total (drop (i + 1) ts) * m ≤ start
+  below-most start now new a m e h g = omega (arith, ap (λ x. x * m) left-total, e, h, g)
+
+  pub below-small : (start now a m : ℕ) → a ≡ unsigned_abs (coefficient_at ts i) * m → now + total (drop i ts) * m ≤ start → start < 2 ^ 126 → now + a < 2 ^ 126
+  below-small start now a m e h small = omega (arith, ap (λ x. x * m) left-total, e, h, small)
+
+  pub below-product : (start now m : ℕ) → now + total (drop i ts) * m ≤ start → start < 2 ^ 126 → unsigned_abs (coefficient_at ts i) * m < 2 ^ 127
+  below-product start now m h small = omega (arith, ap (λ x. x * m) left-total, h, small)
+
+-- a term on the left, among those on the right
+module _ (xs : List (ℕ × ℤ)) (i : ℕ) (lt : i < length xs) where
+  pub merge-next : (n : ℕ) (l : ℤ) (rest all mid new : Number n) (c : ℤ) → c ≡ coefficient_at xs i *ℤ l
+      → (numbers n).add mid rest ≡ (numbers n).add ((numbers n).mul (integer (numbers n) l) (terms_sum n (take i xs))) all → new ≡ (numbers n).add mid (term_value n (exponent_at xs i) c)
+      → (numbers n).add new rest ≡ (numbers n).add ((numbers n).mul (integer (numbers n) l) (terms_sum n (take (i + 1) xs))) all
+  merge-next n l rest all mid new c ec h g = ap (λ x. (numbers n).add x rest) (g ∙ ap (λ x. (numbers n).add mid ((numbers n).mul x (root_power n (exponent_at xs i)))) (ap (integer (numbers n)) ec ∙ integer-mul (numbers n) (coefficient_at xs i) l))
+      ∙ apart (numbers n) mid rest ((numbers n).mul ((numbers n).mul (integer (numbers n) (coefficient_at xs i)) (integer (numbers n) l)) (root_power n (exponent_at xs i)))
+      ∙ ap (λ x. (numbers n).add x ((numbers n).mul ((numbers n).mul (integer (numbers n) (coefficient_at xs i)) (integer (numbers n) l)) (root_power n (exponent_at xs i)))) h
+      ∙ gather (numbers n) (integer (numbers n) l) (terms_sum n (take i xs)) all (integer (numbers n) (coefficient_at xs i)) (root_power n (exponent_at xs i))
+      ∙ ap (λ x. (numbers n).add ((numbers n).mul (integer (numbers n) l) x) all) (sym (sum-more n (take i xs) (exponent_at xs i, coefficient_at xs i)) ∙ ap (terms_sum n) (sym (take_more xs i (0, pos 0) lt)))
+    where
+      apart : (R : Ring) (a b t : R.Carrier) → R.add (R.add a t) b ≡ R.add (R.add a b) t
+      apart R a b t = simp (ring_laws, R)
+
+      gather : (R : Ring) (l s all c z : R.Carrier) → R.add (R.add (R.mul l s) all) (R.mul (R.mul c l) z) ≡ R.add (R.mul l (R.add s (R.mul c z))) all
+      gather R l s all c z = simp (ring_laws, R)
+
+  pub merge-most : (rest all mid new a m : ℕ) → a ≡ unsigned_abs (coefficient_at xs i) * m → mid + rest ≤ total (take i xs) * m + all → new ≤ mid + a → new + rest ≤ total (take (i + 1) xs) * m + all
+  merge-most rest all mid new a m e h g = omega (arith, ap (λ x. x * m) (at_more xs m i lt), e, h, g)
+
+  pub merge-small : (rest all mid a m : ℕ) → a ≡ unsigned_abs (coefficient_at xs i) * m → mid + rest ≤ total (take i xs) * m + all → total xs * m + all < 2 ^ 110 → mid + a < 2 ^ 126
+  merge-small rest all mid a m e h small = omega (arith, ap (λ x. x * m) (at_more xs m i lt), Nat.mul-le-mul_right m (more_le xs m i lt), e, h, small)
+
+  pub merge-rest : (rest all mid m : ℕ) → mid + rest ≤ total (take i xs) * m + all → total xs * m + all < 2 ^ 110 → mid + rest < 2 ^ 126
+  merge-rest rest all mid m h small = omega (arith, ap (λ x. x * m) (at_more xs m i lt), Nat.mul-le-mul_right m (more_le xs m i lt), h, small)
+
+  pub merge-product : (all m : ℕ) → total xs * m + all < 2 ^ 110 → unsigned_abs (coefficient_at xs i) * m < 2 ^ 127
+  merge-product all m small = factor-small xs m i lt (omega arith)

@@ -1,11 +1,11 @@
 //! Terms of powers, sums, products and lifts.
-ghost use Rattle.std.specs.Prelude.{ℕ, ℤ, pos, ◌≡◌, ◌≢◌, ◌+◌, ◌*◌, ◌^◌, ◌<◌, ◌≤◌, ◌*ℤ◌, map, length, All, IfOk, OnOk, sum_by};
+ghost use Rattle.std.specs.Prelude.{ℕ, ℤ, pos, ◌≡◌, ◌≢◌, ◌+◌, ◌*◌, ◌^◌, ◌<◌, ◌≤◌, ◌*ℤ◌, map, drop, length, All, IfOk, OnOk, IsTrue, sum_by};
 ghost use Rattle.std.specs.Int.RustNames.{unsigned_abs};
 ghost use Rattle.irr_number.specs.Number.{numbers, root_power};
 ghost use Rattle.irr_rational.specs.Integer.{integer};
 ghost use Rattle.irr_cyc.specs.Terms.{terms_sum};
 ghost use Rattle.irr_cyc.specs.declared.orders.TheConstants.{ORDER_LIMIT};
-ghost use Rattle.irr_sparse.specs.TermList.{AreTerms, row_sum, total};
+ghost use Rattle.irr_sparse.specs.TermList.{AreTerms, exponent_at, row_sum, total};
 ghost use Rattle.irr_sparse.specs.Parts.{AreParts, IsFreeOutside, weight};
 
 use crate::parts::{Part, parts_of};
@@ -26,7 +26,19 @@ pub(crate) fn power(alloc: Global, n: u32, exponent: u32) -> Result<Vec<(u32, i1
     Ok(sums)
 }
 
-/// The terms of a product: the cost of `add_power` for each pair of terms.
+// Whether the terms are one rational number that is not 0.
+fn is_rational(terms: &[(u32, i128)]) -> bool
+    ensures one { IsTrue result → length terms.now ≡ 1 }
+    ensures exponent { IsTrue result → exponent_at terms.now 0 ≡ 0 }
+{
+    if terms.len() != 1 {
+        return false;
+    }
+    terms[0].0 == 0
+}
+
+/// The terms of a product: nothing where a factor is 0, as many steps as terms where one is rational, and else the
+/// cost of `add_power` for each pair of terms.
 pub(crate) fn product(
     alloc: Global,
     n: u32,
@@ -41,6 +53,20 @@ pub(crate) fn product(
     ensures terms { IfOk result (λ v. AreTerms n 0 v.items) }
     ensures sum { IfOk result (λ v. terms_sum n v.items ≡ (numbers n).mul (terms_sum n xs.now) (terms_sum n ys.now)) }
 {
+    if xs.is_empty() {
+        return Ok(Vec::new(alloc));
+    }
+    if ys.is_empty() {
+        return Ok(Vec::new(alloc));
+    }
+    if is_rational(xs) {
+        let products = scaled(alloc, ys, xs[0].1)?;
+        return Ok(products);
+    }
+    if is_rational(ys) {
+        let products = scaled(alloc, xs, ys[0].1)?;
+        return Ok(products);
+    }
     let parts = parts_of(n);
     let mut sums = Vec::new(alloc);
     for (exponent, coefficient) in xs {
@@ -140,8 +166,56 @@ pub(crate) fn scaled(
     Ok(products)
 }
 
-/// The terms of `left` times a number and `right` times another, of one order: a search by halves for each term
-/// on the right.
+// Adds the terms, each times a number: a search by halves for each, and none for those behind all others.
+fn add_multiples(
+    sums: &mut Vec<(u32, i128)>,
+    terms: &[(u32, i128)],
+    times: i128,
+) -> Result<(), Memory>
+    requires both { (n : ℕ) × AreTerms n 0 sums.old.items × AreTerms n 0 terms.now }
+    requires nonzero { times ≢ pos 0 }
+    requires small { total sums.old.items + total terms.now * unsigned_abs times < 2 ^ 126 }
+    ensures terms { OnOk result ((n : ℕ) → AreTerms n 0 sums.old.items → AreTerms n 0 terms.now → AreTerms n 0 sums.new.items) }
+    ensures sum { OnOk result ((n : ℕ) → terms_sum n sums.new.items ≡ (numbers n).add (terms_sum n sums.old.items) ((numbers n).mul (integer (numbers n) times) (terms_sum n terms.now))) }
+    ensures total { OnOk result (total sums.new.items ≤ total sums.old.items + total terms.now * unsigned_abs times) }
+{
+    for (exponent, coefficient) in terms {
+        add_term(sums, *exponent, *coefficient * times)?;
+    }
+    Ok(())
+}
+
+// Adds the terms from a place on whose exponents are below a limit, each times a number, and gives the next place.
+fn add_below(
+    sums: &mut Vec<(u32, i128)>,
+    terms: &[(u32, i128)],
+    from: usize,
+    times: i128,
+    limit: u32,
+) -> Result<usize, Memory>
+    requires both { (n : ℕ) × AreTerms n 0 sums.old.items × AreTerms n 0 terms.now }
+    requires within { from ≤ length terms.now }
+    requires nonzero { times ≢ pos 0 }
+    requires small { total sums.old.items + total (drop from terms.now) * unsigned_abs times < 2 ^ 126 }
+    ensures within { IfOk result (λ next. next ≤ length terms.now) }
+    ensures terms { OnOk result ((n : ℕ) → AreTerms n 0 sums.old.items → AreTerms n 0 terms.now → AreTerms n 0 sums.new.items) }
+    ensures sum { IfOk result (λ next. (n : ℕ) → (numbers n).add (terms_sum n sums.new.items) ((numbers n).mul (integer (numbers n) times) (terms_sum n (drop next terms.now))) ≡ (numbers n).add (terms_sum n sums.old.items) ((numbers n).mul (integer (numbers n) times) (terms_sum n (drop from terms.now)))) }
+    ensures total { IfOk result (λ next. total sums.new.items + total (drop next terms.now) * unsigned_abs times ≤ total sums.old.items + total (drop from terms.now) * unsigned_abs times) }
+{
+    let mut next = from;
+    while next < terms.len() {
+        let (exponent, coefficient) = terms[next];
+        if exponent >= limit {
+            return Ok(next);
+        }
+        add_term(sums, exponent, coefficient * times)?;
+        next += 1;
+    }
+    Ok(next)
+}
+
+/// The terms of `left` times a number and `right` times another, of one order, taken in increasing order: one
+/// allocation, and as many steps as terms.
 pub(crate) fn combination(
     alloc: Global,
     xs: &[(u32, i128)],
@@ -156,9 +230,12 @@ pub(crate) fn combination(
     ensures terms { IfOk result (λ v. (n : ℕ) → AreTerms n 0 xs.now → AreTerms n 0 ys.now → AreTerms n 0 v.items) }
     ensures sum { IfOk result (λ v. (n : ℕ) → terms_sum n v.items ≡ (numbers n).add ((numbers n).mul (integer (numbers n) left) (terms_sum n xs.now)) ((numbers n).mul (integer (numbers n) right) (terms_sum n ys.now))) }
 {
-    let mut sums = scaled(alloc, xs, left)?;
-    for (exponent, coefficient) in ys {
-        add_term(&mut sums, *exponent, *coefficient * right)?;
+    let mut sums = Vec::with_capacity(alloc, xs.len() + ys.len())?;
+    let mut from = 0;
+    for (exponent, coefficient) in xs {
+        from = add_below(&mut sums, ys, from, right, *exponent)?;
+        add_term(&mut sums, *exponent, *coefficient * left)?;
     }
+    add_multiples(&mut sums, &ys[from..], right)?;
     Ok(sums)
 }

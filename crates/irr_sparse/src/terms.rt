@@ -30,15 +30,23 @@ pub(crate) fn are_same(xs: &[(u32, i128)], ys: &[(u32, i128)]) -> bool
     true
 }
 
-// How many terms have exponents below the one given: the place of its term, in as many steps as the length has bits.
+// How many terms have exponents below the one given: the place of its term. It takes as many steps as the length has
+// bits, and one where all are below.
 fn place_of(terms: &[(u32, i128)], exponent: u32) -> usize
     requires { IsIncreasing terms.now }
     ensures within { result ≤ length terms.now }
     ensures before { (i : ℕ) → i < result → exponent_at terms.now i < exponent }
     ensures after { result < length terms.now → exponent ≤ exponent_at terms.now result }
 {
+    let count = terms.len();
+    if count == 0 {
+        return 0;
+    }
+    if terms[count - 1].0 < exponent {
+        return count;
+    }
     let mut low = 0;
-    let mut high = terms.len();
+    let mut high = count;
     while low < high {
         let middle = low + (high - low) / 2;
         if terms[middle].0 < exponent {

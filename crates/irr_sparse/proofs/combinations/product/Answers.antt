@@ -1,13 +1,16 @@
 -- One row more.
-use Rattle.std.proofs.Common.{rules, ◌≡◌, sym, ◌∙◌, ap, subst, ℕ, ℤ, ◌+◌, ◌*◌, ◌<◌, ◌≤◌, ◌^◌, List, [], unsigned_abs, FitsSigned, to_z, of_z, arith}
+use Rattle.std.proofs.Common.{length, Bool, true, ◌==◌, rules, ◌≡◌, sym, ◌∙◌, ap, subst, ℕ, ℤ, ◌+◌, ◌*◌, ◌<◌, ◌≤◌, ◌^◌, List, [], unsigned_abs, FitsSigned, to_z, of_z, arith}
+use Rattle.std.proofs.lemmas.Grind.{common_steps}
 use Rattle.std.proofs.lemmas.Int.{to_z-of_z}
+use native.Mathlib.Nat as Nat
 use mir.Syntax.{w128}
+use Rattle.irr_number.specs.Number.{numbers}
 use Rattle.irr_cyc.specs.Terms.{terms_sum}
 use Rattle.irr_sparse.specs.Parts.{IsFreeOutside, weight}
 use Rattle.irr_sparse.specs.TermList.{AreTerms, coefficient_at, total}
 use Rattle.irr_sparse.specs.declared.parts.Part.{Part}
 use Rattle.irr_sparse.proofs.Lists.{terms-at, terms-none}
-use Rattle.irr_sparse.proofs.Products.{each-inside, each-nonzero, product-end, product-next, product-start, rows-next, rows-small}
+use Rattle.irr_sparse.proofs.Products.{each-inside, each-nonzero, nothing-left, nothing-right, rational-product, rational-small, rational-terms, product-end, product-next, product-start, rows-next, rows-small}
 use Rattle.irr_sparse.proofs.combinations.product.Goals as goal
 
 nothing : (ts : List (ℕ × ℤ)) (k : ℕ) → ts ≡ [] → total ts ≤ k
@@ -62,3 +65,61 @@ loop-exponent-preserved c =
 
 pub returns-clause-sum : goal.returns-clause-sum
 returns-clause-sum c = product-end c.args.n c.args.xs.now c.args.ys.now (terms_sum c.args.n c.loop-exponent.sums.items) c.loop-exponent.exponent-index c.loop-exponent-test.false c.loop-exponent.invariant.sum
+
+no_items : (n : ℕ) (b : Bool) → b ≡ (n == 0) → b ≡ true → n ≡ 0
+no_items n b e t = grind (arith, common_steps)
+
+empty : (n : ℕ) (ts : List (ℕ × ℤ)) → ts ≡ [] → AreTerms n 0 ts
+empty n ts e = subst (AreTerms n 0) (sym e) (terms-none n 0)
+
+pub returns-then-is_empty-clause-terms : goal.returns-then-is_empty-clause-terms
+returns-then-is_empty-clause-terms c = empty c.args.n c.new.result.items c.new.ensures.items
+
+pub returns-then-is_empty-clause-sum : goal.returns-then-is_empty-clause-sum
+returns-then-is_empty-clause-sum c = nothing-left c.args.n c.args.xs.now c.args.ys.now c.new.result.items (no_items (length c.args.xs.now) c.is_empty.result c.is_empty.ensures c.if-is_empty.true) c.new.ensures.items
+
+pub returns-then-is_empty-2-clause-terms : goal.returns-then-is_empty-2-clause-terms
+returns-then-is_empty-2-clause-terms c = empty c.args.n c.new-then-is_empty-2.result.items c.new-then-is_empty-2.ensures.items
+
+pub returns-then-is_empty-2-clause-sum : goal.returns-then-is_empty-2-clause-sum
+returns-then-is_empty-2-clause-sum c = nothing-right c.args.n c.args.xs.now c.args.ys.now c.new-then-is_empty-2.result.items (no_items (length c.args.ys.now) c.is_empty-2.result c.is_empty-2.ensures c.if-is_empty-2.true) c.new-then-is_empty-2.ensures.items
+
+turned-small : (x y : ℕ) → x * y ≤ 2 ^ 100 → y * x ≤ 2 ^ 100
+turned-small x y h = omega (arith, h, Nat.mul_comm x y)
+
+pub scaled-requires : goal.scaled-requires
+scaled-requires c =
+    let fits : FitsSigned w128 (coefficient_at c.args.xs.now 0) = search rules in
+    let r : to_z w128 (of_z w128 (coefficient_at c.args.xs.now 0)) ≡ coefficient_at c.args.xs.now 0 = to_z-of_z w128 (coefficient_at c.args.xs.now 0) fits in
+    rational-small c.args.xs.now c.args.ys.now (to_z w128 (of_z w128 (coefficient_at c.args.xs.now 0))) (c.is_rational.ensures.one c.if-is_rational.true) r c.requires.small
+
+pub scaled-requires-then-is_rational-2 : goal.scaled-requires-then-is_rational-2
+scaled-requires-then-is_rational-2 c =
+    let fits : FitsSigned w128 (coefficient_at c.args.ys.now 0) = search rules in
+    let r : to_z w128 (of_z w128 (coefficient_at c.args.ys.now 0)) ≡ coefficient_at c.args.ys.now 0 = to_z-of_z w128 (coefficient_at c.args.ys.now 0) fits in
+    rational-small c.args.ys.now c.args.xs.now (to_z w128 (of_z w128 (coefficient_at c.args.ys.now 0))) (c.is_rational-2.ensures.one c.if-is_rational-2.true) r (turned-small (total c.args.xs.now) (total c.args.ys.now) c.requires.small)
+
+pub returns-then-is_rational-clause-terms : goal.returns-then-is_rational-clause-terms
+returns-then-is_rational-clause-terms c =
+    let fits : FitsSigned w128 (coefficient_at c.args.xs.now 0) = search rules in
+    let r : to_z w128 (of_z w128 (coefficient_at c.args.xs.now 0)) ≡ coefficient_at c.args.xs.now 0 = to_z-of_z w128 (coefficient_at c.args.xs.now 0) fits in
+    rational-terms c.args.n c.args.xs.now c.args.ys.now c.in_ok-products.products.items (to_z w128 (of_z w128 (coefficient_at c.args.xs.now 0))) (c.is_rational.ensures.one c.if-is_rational.true) c.requires.left r c.in_ok-products.ensures c.requires.right
+
+pub returns-then-is_rational-clause-sum : goal.returns-then-is_rational-clause-sum
+returns-then-is_rational-clause-sum c =
+    let fits : FitsSigned w128 (coefficient_at c.args.xs.now 0) = search rules in
+    let r : to_z w128 (of_z w128 (coefficient_at c.args.xs.now 0)) ≡ coefficient_at c.args.xs.now 0 = to_z-of_z w128 (coefficient_at c.args.xs.now 0) fits in
+    rational-product c.args.n c.args.xs.now c.args.ys.now c.in_ok-products.products.items (to_z w128 (of_z w128 (coefficient_at c.args.xs.now 0))) (c.is_rational.ensures.one c.if-is_rational.true) (c.is_rational.ensures.exponent c.if-is_rational.true) r c.in_ok-products.ensures
+
+pub returns-then-is_rational-2-clause-terms : goal.returns-then-is_rational-2-clause-terms
+returns-then-is_rational-2-clause-terms c =
+    let fits : FitsSigned w128 (coefficient_at c.args.ys.now 0) = search rules in
+    let r : to_z w128 (of_z w128 (coefficient_at c.args.ys.now 0)) ≡ coefficient_at c.args.ys.now 0 = to_z-of_z w128 (coefficient_at c.args.ys.now 0) fits in
+    rational-terms c.args.n c.args.ys.now c.args.xs.now c.in_ok-products-2.products.items (to_z w128 (of_z w128 (coefficient_at c.args.ys.now 0))) (c.is_rational-2.ensures.one c.if-is_rational-2.true) c.requires.right r c.in_ok-products-2.ensures c.requires.left
+
+pub returns-then-is_rational-2-clause-sum : goal.returns-then-is_rational-2-clause-sum
+returns-then-is_rational-2-clause-sum c =
+    let fits : FitsSigned w128 (coefficient_at c.args.ys.now 0) = search rules in
+    let r : to_z w128 (of_z w128 (coefficient_at c.args.ys.now 0)) ≡ coefficient_at c.args.ys.now 0 = to_z-of_z w128 (coefficient_at c.args.ys.now 0) fits in
+    rational-product c.args.n c.args.ys.now c.args.xs.now c.in_ok-products-2.products.items (to_z w128 (of_z w128 (coefficient_at c.args.ys.now 0))) (c.is_rational-2.ensures.one c.if-is_rational-2.true) (c.is_rational-2.ensures.exponent c.if-is_rational-2.true) r c.in_ok-products-2.ensures
+    ∙ (numbers c.args.n).mul_comm (terms_sum c.args.n c.args.ys.now) (terms_sum c.args.n c.args.xs.now)
