@@ -42,8 +42,10 @@ impl<S: Scalar> Full<S> {
     pub fn arms(&self) -> u32
         requires { IsFullRepresentation self.now }
         ensures count { result ≡ length self.now.arms.items }
-        ensures arms { (group : Group) (k : WaveVector) (U : Star (sign_of group.phase) (stands_for group) k) (M : ℕ) (v : U.table.order ∣ M)
-            (d : ℕ) (D : Representation (phases_over U.table M v) d) → IsInduced group U M v D self.now → result ≡ U.arms }
+        ensures arms { (group : Group) (k : WaveVector) (U : Star (sign_of group.phase) (stands_for group) k)
+            (M : ℕ) (v : U.table.order ∣ M)
+            (d : ℕ) (D : Representation (phases_over U.table M v) d) → IsInduced group U M v D self.now
+            → result ≡ U.arms }
     {
         self.arms.len() as u32
     }
@@ -53,8 +55,10 @@ impl<S: Scalar> Full<S> {
         requires { IsFullRepresentation self.now }
         ensures positive { 0 < result }
         ensures rows { result ≡ length self.now.arms.items * self.now.family.dim }
-        ensures dim { (group : Group) (k : WaveVector) (U : Star (sign_of group.phase) (stands_for group) k) (M : ℕ) (v : U.table.order ∣ M)
-            (d : ℕ) (D : Representation (phases_over U.table M v) d) → IsInduced group U M v D self.now → result ≡ U.arms * d }
+        ensures dim { (group : Group) (k : WaveVector) (U : Star (sign_of group.phase) (stands_for group) k)
+            (M : ℕ) (v : U.table.order ∣ M)
+            (d : ℕ) (D : Representation (phases_over U.table M v) d) → IsInduced group U M v D self.now
+            → result ≡ U.arms * d }
     {
         self.arms() * self.family.dim
     }
@@ -76,7 +80,8 @@ impl<S: Scalar> Full<S> {
         ensures row { result.row < length self.now.arms.items }
         ensures place { result.place < length self.now.family.mats.items }
         ensures exponent { result.exponent < self.now.order.n }
-        ensures block { (group : Group) (k : WaveVector) (U : Star (sign_of group.phase) (stands_for group) k) (M : ℕ) (v : U.table.order ∣ M)
+        ensures block { (group : Group) (k : WaveVector) (U : Star (sign_of group.phase) (stands_for group) k)
+            (M : ℕ) (v : U.table.order ∣ M)
             (d : ℕ) (D : Representation (phases_over U.table M v) d) → IsInduced group U M v D self.now
             → (j : Fin U.arms) → to_nat j ≡ column → IsBlockAt U M (operation op.now) j result }
     {
@@ -100,7 +105,8 @@ impl<S: Scalar> Full<S> {
         requires member { stands_for self.now.group (operation op.now) }
         requires small { HasSmallVector op.now }
         ensures count { IfOk result (λ bs. length bs.items ≡ length self.now.arms.items) }
-        ensures blocks { (group : Group) (k : WaveVector) (U : Star (sign_of group.phase) (stands_for group) k) (M : ℕ) (v : U.table.order ∣ M)
+        ensures blocks { (group : Group) (k : WaveVector) (U : Star (sign_of group.phase) (stands_for group) k)
+            (M : ℕ) (v : U.table.order ∣ M)
             (d : ℕ) (D : Representation (phases_over U.table M v) d) → IsInduced group U M v D self.now
             → IfOk result (λ bs. AreBlocksAt U M (operation op.now) bs.items) }
     {

@@ -13,7 +13,8 @@ use irr_seitz::Op;
 
 /// The first product with a rotation.
 pub(crate) fn with_rotation(products: &[Product], rot: &[[i16; 3]; 3]) -> Product
-    requires { (n : ℕ) × (n < length products.now) × HoldsAt (λ p. (operation p.op).rotation ≡ rotation_of rot.now) products.now n }
+    requires { (n : ℕ) × (n < length products.now) × HoldsAt (λ p. (operation p.op).rotation ≡ rotation_of rot.now)
+        products.now n }
     ensures inside { Contains products.now result }
     ensures rotation { (operation result.op).rotation ≡ rotation_of rot.now }
 {

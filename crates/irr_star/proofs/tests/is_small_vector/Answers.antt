@@ -1,5 +1,6 @@
 -- The numerators, one by one.
-use Rattle.std.proofs.Common.{◌≡◌, ◌≤◌, ◌*◌, subst, ℕ, ℤ, pos, List, unsigned_abs, get_or, FitsSigned, to_z, of_z, rules}
+use Rattle.std.proofs.Common.{◌≡◌, ◌≤◌, ◌*◌, subst, ℕ, ℤ, pos, List, unsigned_abs, get_or, FitsSigned, to_z, of_z}
+use Rattle.std.proofs.Common.{rules}
 use Rattle.std.specs.Int.{w64}
 use Rattle.std.proofs.lemmas.Int.{to_z-of_z}
 use Rattle.irr_algebra.specs.Fin.{Fin, to_nat}
@@ -12,8 +13,10 @@ within : (num : List ℤ) (n : ℕ) → unsigned_abs (get_or num 0 (pos 0)) ≤ 
 unfolding to_nat
 within num n x y z = each_of_three (λ i. unsigned_abs (entry num i) ≤ n) x y z
 
-read : (x : ℤ) (n m : ℕ) → FitsSigned w64 x → unsigned_abs (to_z w64 (of_z w64 x)) ≤ 100000 * n → n ≡ m → unsigned_abs x ≤ 100000 * m
-read x n m f h e = subst (λ k. unsigned_abs x ≤ 100000 * k) e (subst (λ y. unsigned_abs y ≤ 100000 * n) (to_z-of_z w64 x f) h)
+read : (x : ℤ) (n m : ℕ) → FitsSigned w64 x → unsigned_abs (to_z w64 (of_z w64 x)) ≤ 100000 * n → n ≡ m
+    → unsigned_abs x ≤ 100000 * m
+read x n m f h e = subst (λ k. unsigned_abs x ≤ 100000 * k) e
+    (subst (λ y. unsigned_abs y ≤ 100000 * n) (to_z-of_z w64 x f) h)
 
 pub returns : goal.returns
 returns c = λ t. within c.args.op.now.num (100000 * c.args.op.now.den)
