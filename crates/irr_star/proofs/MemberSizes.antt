@@ -4,7 +4,7 @@
 --   members_lcm           two of them have a common denominator of at most 100,000
 --   member_denominator    and one as well
 --   cell_sizes            components of a vector in the cell
---   same_member           equal groups have the same operations
+--   same_member, member_same    equal groups have the same operations
 use Rattle.std.proofs.Common.{◌≡◌, sym, subst, ℕ, ◌*◌, ◌≤◌, get_or, unsigned_abs}
 use Rattle.std.proofs.Math.Logic.{∥∥₁_elim}
 use Rattle.std.specs.Int.{◌∣◌}
@@ -92,3 +92,8 @@ pub same_member : (a b : Group) → IsSameGroup a b → (g : Operation) → stan
 unfolding stands_for
 same_member a b same g s = subst (λ cs. StandFor a.ops.items cs g) same.centrings
     (subst (λ os. StandFor os b.centrings.items g) same.ops s)
+
+pub member_same : (a b : Group) → IsSameGroup a b → (g : Operation) → stands_for a g → stands_for b g
+unfolding stands_for
+member_same a b same g s = subst (λ cs. StandFor b.ops.items cs g) (sym same.centrings)
+    (subst (λ os. StandFor os a.centrings.items g) (sym same.ops) s)

@@ -1,5 +1,5 @@
 // Full representations.
-ghost use Rattle.std.specs.Prelude.{ℕ, ◌≡◌, ◌<◌, ◌*◌, IfOk, length};
+ghost use Rattle.std.specs.Prelude.{ℕ, ◌≡◌, ◌<◌, ◌≤◌, ◌*◌, ◌↔◌, IfOk, IsTrue, length, unsigned_abs};
 ghost use Rattle.std.specs.Int.{◌∣◌};
 ghost use Rattle.irr_algebra.specs.Fin.{Fin, to_nat};
 ghost use Rattle.irr_theory.specs.FactorSystem.{Representation};
@@ -15,7 +15,7 @@ ghost use Rattle.irr_star.specs.Blocks.{AreBlocksAt, IsBlockAt};
 ghost use Rattle.irr_star.specs.Induced.{IsInduced, IsFullRepresentation};
 
 use crate::lists::{Block, Product};
-use crate::shifts::{difference, with_rotation};
+use crate::shifts::{are_all, difference, with_rotation};
 use irr_close::Group;
 use irr_cyc::{Order, Scalar};
 use irr_little::{Arm, theta};
@@ -38,6 +38,13 @@ pub struct Full<S: Scalar> {
 }
 
 impl<S: Scalar> Full<S> {
+    /// Whether the group has an operation.
+    pub fn contains(&self, op: &Op) -> bool
+        ensures { IsTrue result ↔ stands_for self.now.group (operation op.now) }
+    {
+        self.group.contains(op)
+    }
+
     /// The number of arms.
     pub fn arms(&self) -> u32
         requires { IsFullRepresentation self.now }
@@ -116,4 +123,23 @@ impl<S: Scalar> Full<S> {
         }
         Ok(blocks)
     }
+}
+
+// Whether a number is at most a limit in absolute value.
+fn is_at_most(number: i64, limit: u64) -> bool
+    ensures { IsTrue result ↔ (unsigned_abs number ≤ limit) }
+{
+    number.unsigned_abs() <= limit
+}
+
+/// Whether no component of the vector of an operation is above 100,000 in absolute value.
+pub fn has_small_vector(op: &Op) -> bool
+    ensures { IsTrue result ↔ HasSmallVector op.now }
+{
+    let limit = 100_000 * u64::from(op.den);
+    are_all(
+        is_at_most(op.num[0], limit),
+        is_at_most(op.num[1], limit),
+        is_at_most(op.num[2], limit),
+    )
 }

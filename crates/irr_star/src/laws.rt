@@ -1,5 +1,5 @@
 // Laws of stars and full representations of groups in the program.
-ghost use Rattle.std.specs.Prelude.{ℕ, ◌≡◌, ◌<◌, List};
+ghost use Rattle.std.specs.Prelude.{ℕ, ◌≡◌, ◌<◌, ◌↔◌, List};
 ghost use Rattle.std.specs.Int.{◌∣◌};
 ghost use Rattle.std.specs.List.{All};
 ghost use Rattle.irr_algebra.specs.Fin.{Fin};
@@ -19,7 +19,7 @@ ghost use Rattle.irr_mat.specs.Size.{IsWithin};
 ghost use Rattle.irr_rep.specs.Twisted.{operation_places, phase_table};
 ghost use Rattle.irr_rep.specs.declared.table.Twisted.{Twisted};
 ghost use Rattle.irr_close.specs.Canonical.{numbered};
-ghost use Rattle.irr_close.specs.StandsFor.{stands_for};
+ghost use Rattle.irr_close.specs.StandsFor.{IsSameGroup, stands_for};
 ghost use Rattle.irr_close.specs.declared.group.Group.{Group};
 ghost use Rattle.irr_little.specs.Arms.{AreArms};
 ghost use Rattle.irr_little.specs.Table.{IsLittleTable};
@@ -82,4 +82,9 @@ pub fn sizes_of_full_representations()
         (A : Operation → Matrix (numbers M) (times U.arms d) (times U.arms d))
         → IsFullOf U M v D A → (s e : ℕ) → ((p : Fin U.places) → IsWithin M s e (D.at p))
         → (g : Operation) → stands_for group g → IsWithin M s e (A g) }
+{}
+
+/// Equal groups have the same operations.
+pub fn operations_of_equal_groups()
+    ensures { (a b : Group) → IsSameGroup a b → (g : Operation) → stands_for a g ↔ stands_for b g }
 {}

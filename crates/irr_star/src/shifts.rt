@@ -26,7 +26,8 @@ pub(crate) fn with_rotation(products: &[Product], rot: &[[i16; 3]; 3]) -> Produc
     unreachable!()
 }
 
-fn are_all(x: bool, y: bool, z: bool) -> bool
+/// Whether three tests hold.
+pub(crate) fn are_all(x: bool, y: bool, z: bool) -> bool
     ensures { IsTrue result ↔ (IsTrue x × IsTrue y × IsTrue z) }
 {
     x && y && z
