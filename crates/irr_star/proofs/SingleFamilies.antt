@@ -20,13 +20,15 @@ use Rattle.irr_rep.proofs.Families.{matrix_at-item, representation-at}
 use Rattle.irr_rep.proofs.SingleEntries.{SinglesSoFar, item}
 use Rattle.irr_star.specs.Sizes.{IsSmallFamily}
 
-module _ {S : Type 0} {G : Ghosts S} {h : ℕ} (T : PhaseTable h) (n : ℕ) (v : T.order ∣ n) (mats : List (Mat S G)) (s : SinglesSoFar n h mats) where
+module _ {S : Type 0} {G : Ghosts S} {h : ℕ} (T : PhaseTable h) (n : ℕ) (v : T.order ∣ n) (mats : List (Mat S G))
+    (s : SinglesSoFar n h mats) where
   within : (i : Fin h) → IsWithin n 1 1 (matrix_at n 1 mats i)
   within i =
       let l : to_nat i < length mats = subst (λ k. to_nat i < k) (sym s.count) (to_nat-lt i) in
       let m = item mats (to_nat i) l in
       subst (IsWithin n 1 1) (sym (matrix_at-item n 1 mats (to_nat i) m.0 l m.1 i refl))
-      (subst (λ u. IsWithin n 1 1 (matrix_of G.value n 1 1 u.entries.items)) (sym m.1) (s.single (to_nat i) m.0 l).within)
+      (subst (λ u. IsWithin n 1 1 (matrix_of G.value n 1 1 u.entries.items)) (sym m.1)
+      (s.single (to_nat i) m.0 l).within)
 
   shape : HasShape n h 1 mats
   shape = record {
@@ -57,7 +59,8 @@ module _ {S : Type 0} {G : Ghosts S} {h : ℕ} (T : PhaseTable h) (n : ℕ) (v :
   small_singles p f e same = record {
     size = e;
     shape = subst (HasShape n h 1) (sym same) shape;
-    matrices = λ i. subst (λ ms. matrix_at n 1 ms i ≡ (representation T n v 1 mats p).at i) (sym same) (sym (representation-at T n v 1 mats p i));
+    matrices = λ i. subst (λ ms. matrix_at n 1 ms i ≡ (representation T n v 1 mats p).at i) (sym same)
+        (sym (representation-at T n v 1 mats p i));
     few = omega arith;
     denominator = 1;
     small = omega arith;

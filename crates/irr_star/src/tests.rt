@@ -13,7 +13,7 @@ ghost use Rattle.irr_close.specs.StandsFor.{stands_for};
 ghost use Rattle.irr_star.specs.Sizes.{HasSmallVector};
 ghost use Rattle.irr_star.specs.Induced.{IsFullRepresentation};
 
-use crate::{Full, Memory, arm_part, induce};
+use crate::{Full, Memory, arm_part, has_small_vector, induce};
 use irr_close::{Group, close};
 use irr_cyc::{Dense, Lift, Order, Scalar};
 use irr_kvec::Wave;
@@ -209,25 +209,6 @@ fn full_of<S: Lift>(
     }
 }
 
-fn is_at_most(number: i64, limit: u64) -> bool
-    ensures { IsTrue result → unsigned_abs number ≤ limit }
-{
-    number.unsigned_abs() <= limit
-}
-
-fn is_small_vector(op: &Op) -> bool
-    ensures { IsTrue result → HasSmallVector op.now }
-{
-    let limit = 100_000 * u64::from(op.den);
-    if !is_at_most(op.num[0], limit) {
-        return false;
-    }
-    if !is_at_most(op.num[1], limit) {
-        return false;
-    }
-    is_at_most(op.num[2], limit)
-}
-
 // Whether a number is c z^e, or 0.
 fn is_power<S: Scalar>(alloc: Global, x: &S, term: Option<(u32, i128)>) -> Result<bool, Memory> {
     let canon = x.canonical(alloc)?;
@@ -249,10 +230,10 @@ fn has_matrix<S: Scalar>(
 ) -> Result<bool, Memory>
     requires { IsFullRepresentation full.now }
 {
-    if !full.group.contains(op) {
+    if !full.contains(op) {
         return Ok(false);
     }
-    if !is_small_vector(op) {
+    if !has_small_vector(op) {
         return Ok(false);
     }
     let m = full.matrix(alloc, op)?;
@@ -281,10 +262,10 @@ fn has_traces<S: Scalar>(
 ) -> Result<bool, Memory>
     requires { IsFullRepresentation full.now }
 {
-    if !full.group.contains(op) {
+    if !full.contains(op) {
         return Ok(false);
     }
-    if !is_small_vector(op) {
+    if !has_small_vector(op) {
         return Ok(false);
     }
     if full.arms() == 0 {

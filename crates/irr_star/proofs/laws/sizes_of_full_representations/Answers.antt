@@ -6,4 +6,5 @@ use Rattle.irr_star.proofs.laws.sizes_of_full_representations.Goals as goal
 
 pub returns : goal.returns
 returns c group k U M positive v d D A full s e within g in_g =
-    full_within (stands_for group) (space_group group).is_group (has_canonical group) U M positive v D A full s e within g in_g
+    full_within (stands_for group) (space_group group).is_group
+    (has_canonical group) U M positive v D A full s e within g in_g

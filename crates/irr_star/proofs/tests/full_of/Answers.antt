@@ -15,9 +15,16 @@ use Rattle.irr_star.proofs.StarLists.{star_of_lists}
 use Rattle.irr_star.proofs.tests.full_of.Goals as goal
 
 pub loop-e-preserved : goal.loop-e-preserved
-loop-e-preserved g c = singles-more c.in_ok-order.order.n c.loop-e.e-index c.loop-e.mats.items c.push.new.self.items c.in_ok-matrix.matrix
+loop-e-preserved g c = singles-more c.in_ok-order.order.n c.loop-e.e-index c.loop-e.mats.items c.push.new.self.items
+    c.in_ok-matrix.matrix
     c.loop-e.invariant c.in_ok-push.ensures.items
-    (record { rows = c.in_ok-matrix.ensures.rows; cols = c.in_ok-matrix.ensures.cols; order = c.in_ok-matrix.ensures.order; within = c.in_ok-matrix.ensures.within })
+    (record {
+      rows = c.in_ok-matrix.ensures.rows;
+      cols = c.in_ok-matrix.ensures.cols;
+      order =
+          c.in_ok-matrix.ensures.order;
+      within = c.in_ok-matrix.ensures.within;
+    })
 
 pub first_defect-requires : goal.first_defect-requires
 first_defect-requires g c =
@@ -26,7 +33,8 @@ first_defect-requires g c =
     let done : c.loop-e.e-index ≡ length c.args.exponents.now = search rules in
     let v = subst (λ u. T.order ∣ u) (sym (c.in_ok-order.ensures ∙ c.order.ensures.order)) (Nat.dvd_refl T.order) in
     checkable T n v c.loop-e.mats.items
-    (subst (λ k. SinglesSoFar n k c.loop-e.mats.items) (done ∙ c.if-exponents-len.false ∙ c.len.ensures.count) c.loop-e.invariant)
+    (subst (λ k. SinglesSoFar n k c.loop-e.mats.items) (done ∙ c.if-exponents-len.false ∙ c.len.ensures.count)
+    c.loop-e.invariant)
 
 pub induce-requires-clause-small : goal.induce-requires-clause-small
 induce-requires-clause-small g c =
@@ -41,8 +49,10 @@ induce-requires-clause-small g c =
     let done : c.loop-e.e-index ≡ length c.args.exponents.now = search rules in
     let v = subst (λ u. T.order ∣ u) (sym (c.in_ok-order.ensures ∙ c.order.ensures.order)) (Nat.dvd_refl T.order) in
     let mats = c.loop-e.mats.items in
-    let so = subst (λ k. SinglesSoFar n k mats) (done ∙ c.if-exponents-len.false ∙ c.len.ensures.count) c.loop-e.invariant in
-    let p = represented T n v mats so c.in_ok-_defect.field-0 c.in-None.is (c.in_ok-_defect.ensures (checkable T n v mats so)) in (
+    let so = subst (λ k. SinglesSoFar n k mats) (done ∙ c.if-exponents-len.false ∙ c.len.ensures.count)
+    c.loop-e.invariant in
+    let p = represented T n v mats so c.in_ok-_defect.field-0 c.in-None.is
+    (c.in_ok-_defect.ensures (checkable T n v mats so)) in (
       k,
       star_of group k arms t d a (numbering_of group d) c.in_ok-star.ensures c.in-Ok.ensures.table,
       n,
@@ -66,8 +76,10 @@ returns g c =
     let done : c.loop-e.e-index ≡ length c.args.exponents.now = search rules in
     let v = subst (λ u. T.order ∣ u) (sym (c.in_ok-order.ensures ∙ c.order.ensures.order)) (Nat.dvd_refl T.order) in
     let mats = c.loop-e.mats.items in
-    let so = subst (λ k. SinglesSoFar n k mats) (done ∙ c.if-exponents-len.false ∙ c.len.ensures.count) c.loop-e.invariant in
-    let p = represented T n v mats so c.in_ok-_defect.field-0 c.in-None.is (c.in_ok-_defect.ensures (checkable T n v mats so)) in
+    let so = subst (λ k. SinglesSoFar n k mats) (done ∙ c.if-exponents-len.false ∙ c.len.ensures.count)
+    c.loop-e.invariant in
+    let p = represented T n v mats so c.in_ok-_defect.field-0 c.in-None.is
+    (c.in_ok-_defect.ensures (checkable T n v mats so)) in
     let U = star_of group k arms t d a (numbering_of group d) c.in_ok-star.ensures c.in-Ok.ensures.table in
     record {
       group = group;
@@ -78,5 +90,6 @@ returns g c =
       size = 1;
       small = representation T n v 1 mats p;
       induced = c.in_ok-full-in-None.ensures k U n v 1 (representation T n v 1 mats p)
-          (star_of_lists group k arms t d a (numbering_of group d) c.in_ok-star.ensures c.in-Ok.ensures.table) (small_singles T n v mats so p _ refl refl);
+          (star_of_lists group k arms t d a (numbering_of group d) c.in_ok-star.ensures c.in-Ok.ensures.table)
+          (small_singles T n v mats so p _ refl refl);
     }
