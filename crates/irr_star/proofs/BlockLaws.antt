@@ -30,25 +30,37 @@ use Rattle.irr_full.proofs.StarLaws.{same_arm}
 use Rattle.irr_star.specs.declared.lists.Block.{Block}
 use Rattle.irr_star.specs.Blocks.{IsBlockAt}
 
-module _ (G : Operation → Type 0) (group : IsGroup G) (chosen : HasCanonical G) {s : Sign} {k : WaveVector} (S : Star s G k) (M : ℕ)
-    (v : S.table.order ∣ M) {d : ℕ} (D : Representation (phases_over S.table M v) d) (A : Operation → Matrix (numbers M) (times S.arms d) (times S.arms d))
+module _ (G : Operation → Type 0) (group : IsGroup G) (chosen : HasCanonical G) {s : Sign} {k : WaveVector}
+    (S : Star s G k) (M : ℕ)
+    (v : S.table.order ∣ M) {d : ℕ} (D : Representation (phases_over S.table M v) d)
+    (A : Operation → Matrix (numbers M) (times S.arms d) (times S.arms d))
     (full : IsFullOf S M v D A) (g : Operation) (m : G g) (j : Fin S.arms) (b : Block) (at : IsBlockAt S M g j b) where
   pub block_here : block d (A g) at.to j ≡ scale (numbers M) (root_power M b.exponent) (D.at at.inner)
   block_here = full.carried g m at.to j (translation at.shift ⊙ S.operation at.inner) at.little at.carries
       (scale (numbers M) (root_power M b.exponent) (D.at at.inner))
-      (record { vector = at.shift; place = at.inner; exponent = b.exponent; is_product = refl; is_phase = at.is_phase; is_matrix = refl })
+      (record {
+        vector = at.shift;
+        place = at.inner;
+        exponent = b.exponent;
+        is_product = refl;
+        is_phase = at.is_phase;
+        is_matrix = refl;
+      })
 
   pub block_else : (i : Fin S.arms) → (i ≡ at.to → ⊥) → block d (A g) i j ≡ null
   block_else i other = full.apart g m i j (λ n in_n w. other
-      (same_arm G group chosen S i at.to n (translation at.shift ⊙ S.operation at.inner) in_n at.little (sym w ∙ at.carries)))
+      (same_arm G group chosen S i at.to n (translation at.shift ⊙ S.operation at.inner) in_n at.little
+      (sym w ∙ at.carries)))
 
 block-at : {R : Ring} {a : ℕ} (d : ℕ) (m : Matrix R (times a d) (times a d)) (i j : Fin a) (x y : Fin d)
     → (block d m i j).at x y ≡ m.at (pair d i x) (pair d j y)
 unfolding block
 block-at d m i j x y = refl
 
-pub entry_of_blocks : {R : Ring} {a : ℕ} (d : ℕ) (m : Matrix R (times a d) (times a d)) → 0 < d → (i j : ℕ) (z : R.Carrier)
-    → ((p q : Fin a) → to_nat p ≡ i / d → to_nat q ≡ j / d → IsEntry (block d m p q) (i % d) (j % d) z) → IsEntry m i j z
+pub entry_of_blocks : {R : Ring} {a : ℕ} (d : ℕ) (m : Matrix R (times a d) (times a d)) → 0 < d → (i j : ℕ)
+    (z : R.Carrier)
+    → ((p q : Fin a) → to_nat p ≡ i / d → to_nat q ≡ j / d → IsEntry (block d m p q) (i % d) (j % d) z)
+    → IsEntry m i j z
 entry_of_blocks {a = a} d m positive i j z h = record {
   is_entry = λ u w e f.
       let qi : i / d < a = quotient-lt a d i positive (subst (λ n. n < times a d) e (to_nat-lt u)) in
@@ -59,12 +71,15 @@ entry_of_blocks {a = a} d m positive i j z h = record {
       let q = from_nat a (j / d) qj in
       let x = from_nat d (i % d) ri in
       let y = from_nat d (j % d) rj in
-      (h p q (to_nat-from_nat a (i / d) qi) (to_nat-from_nat a (j / d) qj)).is_entry x y (to_nat-from_nat d (i % d) ri) (to_nat-from_nat d (j % d) rj)
+      (h p q (to_nat-from_nat a (i / d) qi) (to_nat-from_nat a (j / d) qj)).is_entry x y (to_nat-from_nat d (i % d) ri)
+      (to_nat-from_nat d (j % d) rj)
       ∙ block-at d m p q x y
-      ∙ ap₂ (λ (b c : Fin (times a d)). m.at b c) (pair-index a d positive i u e qi ri) (pair-index a d positive j w f qj rj);
+      ∙ ap₂ (λ (b c : Fin (times a d)). m.at b c) (pair-index a d positive i u e qi ri)
+      (pair-index a d positive j w f qj rj);
 }
 
-pub trace_of_blocks : {R : Ring} (a d : ℕ) (m : Matrix R (times a d) (times a d)) → trace m ≡ sum R a (λ i. trace (block d m i i))
+pub trace_of_blocks : {R : Ring} (a d : ℕ) (m : Matrix R (times a d) (times a d)) → trace m ≡ sum R a
+    (λ i. trace (block d m i i))
 unfolding trace block
 trace_of_blocks {R = R} a d m = sum-times R a d (λ x. m.at x x)
 
@@ -79,5 +94,7 @@ unfolding numbered_at to_nat
 numbered_at-is f x first = refl
 numbered_at-is f x (next i) = numbered_at-is (λ j. f (next j)) x i
 
-pub sum_by_number : (R : Ring) (a : ℕ) (f : Fin a → R.Carrier) (x : R.Carrier) → sum_below R a (numbered_at a f x) ≡ sum R a f
-sum_by_number R a f x = sym (sum-to_nat R a (numbered_at a f x)) ∙ sum-ext R a (λ i. numbered_at a f x (to_nat i)) f (λ i. numbered_at-is f x i)
+pub sum_by_number : (R : Ring) (a : ℕ) (f : Fin a → R.Carrier) (x : R.Carrier) → sum_below R a
+    (numbered_at a f x) ≡ sum R a f
+sum_by_number R a f x = sym (sum-to_nat R a (numbered_at a f x)) ∙ sum-ext R a (λ i. numbered_at a f x (to_nat i)) f
+    (λ i. numbered_at-is f x i)

@@ -3,7 +3,8 @@
 --   matrices_none, matrices_more     none, and one more
 --   small_family             all of them are those of a small family
 --   family_item              the matrix of a small family at a place
-use Rattle.std.proofs.Common.{◌≡◌, sym, ◌∙◌, ap, subst, refl, ℕ, ◌+◌, ◌<◌, ◌⊎◌, inl, inr, List, [], ◌∷◌, ◌++◌, length, get_or, length-append, arith}
+use Rattle.std.proofs.Common.{◌≡◌, sym, ◌∙◌, ap, subst, refl, ℕ, ◌+◌, ◌<◌, ◌⊎◌, inl, inr, List, [], ◌∷◌, ◌++◌, length}
+use Rattle.std.proofs.Common.{get_or, length-append, arith}
 use Rattle.std.proofs.Math.Seq.{get_or-append_seam}
 use Rattle.std.proofs.lemmas.Bool.{cases_lt}
 use Rattle.std.proofs.lemmas.List.{get_or_append_left, get_or_default}
@@ -32,7 +33,8 @@ module _ {A : Type 0} {h : ℕ} (P : Fin h → A → Type 0) where
   pub items_none : (xs : List A) → xs ≡ [] → ItemsSoFar P 0 xs
   items_none xs e = record { count = ap length e; item = λ i d l. absurd (omega arith) }
 
-  pub items_more : (k : ℕ) (xs after : List A) (x : A) → ItemsSoFar P k xs → after ≡ xs ++ x ∷ [] → ((i : Fin h) → to_nat i ≡ k → P i x)
+  pub items_more : (k : ℕ) (xs after : List A) (x : A) → ItemsSoFar P k xs → after ≡ xs ++ x ∷ [] →
+      ((i : Fin h) → to_nat i ≡ k → P i x)
       → ItemsSoFar P (k + 1) after
   items_more k xs after x s e is = record {
     count = ap length e ∙ length-append xs (x ∷ []) ∙ ap (λ j. j + 1) s.count;
@@ -40,8 +42,10 @@ module _ {A : Type 0} {h : ℕ} (P : Fin h → A → Type 0) where
   }
     where
       at : (i : Fin h) (d : A) → (to_nat i < k) ⊎ (to_nat i ≡ k) → P i (get_or (xs ++ x ∷ []) (to_nat i) d)
-      at i d (inl l) = subst (P i) (sym (get_or_append_left xs (x ∷ []) d (to_nat i) (subst (λ m. to_nat i < m) (sym s.count) l))) (s.item i d l)
-      at i d (inr q) = subst (P i) (sym (ap (λ m. get_or (xs ++ x ∷ []) m d) (q ∙ sym s.count) ∙ get_or-append_seam xs x [] d)) (is i q)
+      at i d (inl l) = subst (P i) (sym (get_or_append_left xs (x ∷ []) d (to_nat i)
+          (subst (λ m. to_nat i < m) (sym s.count) l))) (s.item i d l)
+      at i d (inr q) = subst (P i) (sym (ap (λ m. get_or (xs ++ x ∷ []) m d) (q ∙ sym s.count)
+          ∙ get_or-append_seam xs x [] d)) (is i q)
 
 pub item_of : {A : Type 0} (xs : List A) (k : ℕ) → k < length xs → (x : A) × (x ≡ get_or xs k x)
 item_of [] k l = absurd (omega arith)
@@ -54,7 +58,8 @@ module _ {S : Type 0} {G : Ghosts S} (n d : ℕ) {h : ℕ} (f : Fin h → Matrix
   pub matrices_none : (mats : List (Mat S G)) → mats ≡ [] → MatricesSoFar 0 mats
   matrices_none mats e = items_none (λ i m. IsMatrix n d (f i) m) mats e
 
-  pub matrices_more : (k : ℕ) (mats after : List (Mat S G)) (m : Mat S G) → MatricesSoFar k mats → after ≡ mats ++ m ∷ []
+  pub matrices_more : (k : ℕ) (mats after : List (Mat S G)) (m : Mat S G) → MatricesSoFar k mats
+      → after ≡ mats ++ m ∷ []
       → ((i : Fin h) → to_nat i ≡ k → IsMatrix n d (f i) m) → MatricesSoFar (k + 1) after
   matrices_more k mats after m s e is = items_more (λ i m. IsMatrix n d (f i) m) k mats after m s e is
 
@@ -83,7 +88,8 @@ module _ {S : Type 0} {G : Ghosts S} (n d : ℕ) {h : ℕ} (f : Fin h → Matrix
 
 module _ {S : Type 0} {G : Ghosts S} (M : ℕ) {h d : ℕ} (D : Fin h → Matrix (numbers M) d d) where
   -- a family with the sizes of another one, and all its matrices
-  pub small_family : (f made : Family S G) → IsSmallFamily M D f → made.dim ≡ f.dim → MatricesSoFar M d D h made.mats.items → IsSmallFamily M D made
+  pub small_family : (f made : Family S G) → IsSmallFamily M D f → made.dim ≡ f.dim
+      → MatricesSoFar M d D h made.mats.items → IsSmallFamily M D made
   small_family f made is same s = record {
     size = same ∙ is.size;
     shape = matrices_shape M d D made.mats.items s is.shape.positive;
@@ -94,6 +100,8 @@ module _ {S : Type 0} {G : Ghosts S} (M : ℕ) {h d : ℕ} (D : Fin h → Matrix
     entries = is.entries;
   }
 
-  pub family_item : (f : Family S G) → IsSmallFamily M D f → (k : ℕ) (m : Mat S G) → k < length f.mats.items → m ≡ get_or f.mats.items k m
+  pub family_item : (f : Family S G) → IsSmallFamily M D f → (k : ℕ) (m : Mat S G) → k < length f.mats.items
+      → m ≡ get_or f.mats.items k m
       → (q : Fin h) → to_nat q ≡ k → IsMatrix M d (D q) m
-  family_item f is k m l e q place = subst (λ a. IsMatrix M d a m) (is.matrices q) (item-matrix M d f.mats.items k m l e is.shape q place)
+  family_item f is k m l e q place = subst (λ a. IsMatrix M d a m) (is.matrices q)
+      (item-matrix M d f.mats.items k m l e is.shape q place)

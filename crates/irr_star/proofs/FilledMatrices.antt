@@ -9,7 +9,8 @@ use Rattle.irr_mat.specs.Entries.{first_order, HaveOneOrder, matrix_of}
 use Rattle.irr_mat.proofs.Entries.{Filled, filled-done, filled-matrix, filled-orders}
 use Rattle.irr_rep.specs.Defects.{IsMatrix}
 
-module _ {S : Type 0} (order : S → ℕ) (value : (n : ℕ) → S → Number n) (n t size i : ℕ) (a : Matrix (numbers n) t t) (xs : List S)
+module _ {S : Type 0} (order : S → ℕ) (value : (n : ℕ) → S → Number n) (n t size i : ℕ) (a : Matrix (numbers n) t t)
+    (xs : List S)
     (h : Filled order value n a (i * t) xs) (same : size ≡ t) (up : size ≤ i) (down : i ≤ size) (some : 0 < size) where
   -- all entries
   full : Filled order value n a (t * t) xs
@@ -27,8 +28,10 @@ module _ {S : Type 0} (order : S → ℕ) (value : (n : ℕ) → S → Number n)
   pub made_orders : HaveOneOrder order xs
   made_orders = (filled-orders order value n t t a xs full some_rows some_rows).1
 
-pub made_matrix : {S : Type 0} {G : Ghosts S} (n t size i : ℕ) (a : Matrix (numbers n) t t) (xs : List S) → Filled G.order_of G.value n a (i * t) xs
-    → size ≡ t → size ≤ i → i ≤ size → 0 < size → (m : Mat S G) → m.rows ≡ size → m.cols ≡ size → m.entries.items ≡ xs → IsMatrix n t a m
+pub made_matrix : {S : Type 0} {G : Ghosts S} (n t size i : ℕ) (a : Matrix (numbers n) t t) (xs : List S)
+    → Filled G.order_of G.value n a (i * t) xs
+    → size ≡ t → size ≤ i → i ≤ size → 0 < size → (m : Mat S G) → m.rows ≡ size → m.cols ≡ size → m.entries.items ≡ xs
+    → IsMatrix n t a m
 made_matrix {G = G} n t size i a xs h same up down some m rows cols entries = record {
   rows = rows ∙ same;
   cols = cols ∙ same;

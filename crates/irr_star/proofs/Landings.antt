@@ -31,14 +31,16 @@ sign_square minus = refl
 sign_square plus = refl
 
 -- where a vector has a phase, M times the product is whole
-whole_of_phase : (s : Sign) (M : ℕ) (k : WaveVector) (t : Vector) (x : ℕ) → IsPhase s M k t x → IsWhole (rationals.mul (integer rationals (pos M)) (dot k t))
+whole_of_phase : (s : Sign) (M : ℕ) (k : WaveVector) (t : Vector) (x : ℕ) → IsPhase s M k t x → IsWhole
+    (rationals.mul (integer rationals (pos M)) (dot k t))
 whole_of_phase s M k t x p =
     let q = rationals.mul (integer rationals (pos M)) (dot k t) in
     let y = pos x +ℤ (p.turns *ℤ pos M) in
     record {
       number = sign_number s *ℤ y;
       is = sym (one-mul rationals q)
-          ∙ ap (λ a. rationals.mul a q) (sym (integer-one rationals) ∙ ap (integer rationals) (sym (sign_square s)) ∙ integer-mul rationals (sign_number s) (sign_number s))
+          ∙ ap (λ a. rationals.mul a q) (sym (integer-one rationals) ∙ ap (integer rationals) (sym (sign_square s))
+          ∙ integer-mul rationals (sign_number s) (sign_number s))
           ∙ rationals.mul_assoc (integer rationals (sign_number s)) (integer rationals (sign_number s)) q
           ∙ ap (rationals.mul (integer rationals (sign_number s)))
           (sym (rationals.mul_assoc (integer rationals (sign_number s)) (integer rationals (pos M)) (dot k t))
@@ -50,19 +52,22 @@ rotation-op : (g h : Operation) → (g ⊙ h).rotation ≡ g.rotation · h.rotat
 unfolding ◌⊙◌
 rotation-op g h = refl
 
-module _ (G : Operation → Type 0) (group : IsGroup G) (chosen : HasCanonical G) {s : Sign} {k : WaveVector} (S : Star s G k) (M : ℕ) (positive : 0 < M)
+module _ (G : Operation → Type 0) (group : IsGroup G) (chosen : HasCanonical G) {s : Sign} {k : WaveVector}
+    (S : Star s G k) (M : ℕ) (positive : 0 < M)
     (v : S.table.order ∣ M) where
   pub found : (g : Operation) → G g → (j : Fin S.arms)
       → (i : Fin S.arms) × (p : Fin S.places) × ((g ⊙ carrier S j).rotation ≡ (carrier S i ⊙ S.operation p).rotation)
   found g m j = from_move (move G group chosen S g m j)
     where
       from_move : (i : Fin S.arms) × (n : Operation) × IsInLittleGroup G k n × (g ⊙ carrier S j ≡ carrier S i ⊙ n)
-          → (i : Fin S.arms) × (p : Fin S.places) × ((g ⊙ carrier S j).rotation ≡ (carrier S i ⊙ S.operation p).rotation)
+          → (i : Fin S.arms) × (p : Fin S.places) × ((g ⊙ carrier S j).rotation ≡
+          (carrier S i ⊙ S.operation p).rotation)
       from_move (i, n, in_n, e) = let q = little_place G group chosen S M positive v n in_n in (
         i,
         q.0,
         ap (λ (f : Operation). f.rotation) e ∙ rotation-op (carrier S i) n
-            ∙ ap (λ r. (carrier S i).rotation · r) (ap (λ (f : Operation). f.rotation) q.2 ∙ rotation-translation-op q.1 (S.operation q.0))
+            ∙ ap (λ r. (carrier S i).rotation · r) (ap (λ (f : Operation). f.rotation) q.2 ∙ rotation-translation-op q.1
+            (S.operation q.0))
             ∙ sym (rotation-op (carrier S i) (S.operation q.0)),
       )
 
@@ -81,32 +86,39 @@ module _ (G : Operation → Type 0) (group : IsGroup G) (chosen : HasCanonical G
 
     pub landed : g ⊙ carrier S j ≡ carrier S i ⊙ (translation before ⊙ S.operation p)
     landed = apart ∙ sym (op-assoc (translation between) (carrier S i) (S.operation p))
-        ∙ ap (λ x. x ⊙ S.operation p) (passes_back (carrier S i) (back G group chosen S i) between (back_inverse G group chosen S i))
+        ∙ ap (λ x. x ⊙ S.operation p) (passes_back (carrier S i) (back G group chosen S i) between
+        (back_inverse G group chosen S i))
         ∙ op-assoc (carrier S i) (translation before) (S.operation p)
 
     member : G (translation before ⊙ S.operation p)
     member = subst G
         (ap (λ x. back G group chosen S i ⊙ x) landed
-        ∙ undone (carrier S i) (back G group chosen S i) (translation before ⊙ S.operation p) (back_inverse G group chosen S i))
+        ∙ undone (carrier S i) (back G group chosen S i) (translation before ⊙ S.operation p)
+        (back_inverse G group chosen S i))
         (group.has_product (back G group chosen S i) (g ⊙ carrier S j) (back_member G group chosen S i)
         (group.has_product g (carrier S j) m (carrier_member G group chosen S j)))
 
     pub landed-little : IsInLittleGroup G k (translation before ⊙ S.operation p)
-    landed-little = little_rotation G group k (S.operation p) (translation before ⊙ S.operation p) (S.numbering.member p) member
+    landed-little = little_rotation G group k (S.operation p) (translation before ⊙ S.operation p)
+        (S.numbering.member p) member
         (rotation-translation-op before (S.operation p))
 
     translation_before : IsTranslation G before
-    translation_before = split_translation G group chosen S M positive v (translation before ⊙ S.operation p) member before p refl
+    translation_before = split_translation G group chosen S M positive v
+        (translation before ⊙ S.operation p) member before p refl
 
     translation_between_them : IsTranslation G between
-    translation_between_them = product_translation G group g (carrier S j) (carrier S i ⊙ S.operation p) between m (carrier_member G group chosen S j)
-        (group.has_product (carrier S i) (S.operation p) (carrier_member G group chosen S i) (S.numbering.member p).member) apart
+    translation_between_them = product_translation G group g (carrier S j) (carrier S i ⊙ S.operation p) between m
+        (carrier_member G group chosen S j)
+        (group.has_product (carrier S i) (S.operation p) (carrier_member G group chosen S i)
+        (S.numbering.member p).member) apart
 
     near : AreEquivalent G (S.arm i) (turned k (back G group chosen S i))
     near = subst (λ w. AreEquivalent G (S.arm i) w) (image-back G group chosen S i) (S.are_arms.carries i).equivalent
 
     pub turned_phase : (x : ℕ) → IsPhase s M (S.arm i) between x → IsPhase s M k before x
-    turned_phase x h = phase_by_dot s M (turned k (back G group chosen S i)) k between before x (sym (dot-turned k (back G group chosen S i) between))
+    turned_phase x h = phase_by_dot s M (turned k (back G group chosen S i)) k between before x
+        (sym (dot-turned k (back G group chosen S i) between))
         (phase_equivalent s M G (S.arm i) (turned k (back G group chosen S i)) between x
         (equivalent_sym G (S.arm i) (turned k (back G group chosen S i)) near) translation_between_them h)
 
@@ -114,4 +126,5 @@ module _ (G : Operation → Type 0) (group : IsGroup G) (chosen : HasCanonical G
     phase_whole = let x = phase_exists G group chosen S M positive v before translation_before in
         whole_of_phase s M (S.arm i) between x.0
         (phase_equivalent s M G (turned k (back G group chosen S i)) (S.arm i) between x.0 near translation_between_them
-        (phase_by_dot s M k (turned k (back G group chosen S i)) before between x.0 (dot-turned k (back G group chosen S i) between) x.1))
+        (phase_by_dot s M k (turned k (back G group chosen S i)) before between x.0
+        (dot-turned k (back G group chosen S i) between) x.1))

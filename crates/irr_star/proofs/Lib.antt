@@ -9,3 +9,6 @@ pub mod MadeBlocks
 pub mod EntryReads
 pub mod FilledMatrices
 pub mod ArmTraces
+pub mod SingleFamilies
+pub mod WaveLimits
+pub mod FullSizes

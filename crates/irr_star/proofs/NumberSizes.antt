@@ -28,15 +28,19 @@ few_size N s d x positive limited h few =
     Nat.le_trans l (Nat.le_trans a b)
 
 module _ {S : Type 0} (value : (n : ℕ) → S → Number n) where
-  pub turn_denominators : (m N : ℕ) → 0 < m → m ≡ N → (x y : S) → IsRootSum N 1 1 (value N x) → denominator N (value N y) ≤ 2 ^ 60
+  pub turn_denominators : (m N : ℕ) → 0 < m → m ≡ N → (x y : S) → IsRootSum N 1 1 (value N x) → denominator N
+      (value N y) ≤ 2 ^ 60
       → denominator m (value m x) * denominator m (value m y) ≤ 2 ^ 60
   turn_denominators m N positive same x y h l =
       let k = subst (λ n. IsRootSum n 1 1 (value n x)) (sym same) h in
-      let one : denominator m (value m x) ≤ 1 = Nat.le_of_dvd k.positive (denominator_of_IsRootSum m positive 1 1 (value m x) k) in
+      let one : denominator m (value m x) ≤ 1 = Nat.le_of_dvd k.positive
+      (denominator_of_IsRootSum m positive 1 1 (value m x) k) in
       let other = subst (λ n. denominator n (value n y) ≤ 2 ^ 60) (sym same) l in
-      subst (λ n. denominator m (value m x) * denominator m (value m y) ≤ n) (Nat.one-mul (2 ^ 60)) (Nat.mul-le-mul one other)
+      subst (λ n. denominator m (value m x) * denominator m (value m y) ≤ n) (Nat.one-mul (2 ^ 60))
+      (Nat.mul-le-mul one other)
 
-  pub turn_sizes : (m N : ℕ) → 0 < m → m ≡ N → m ≤ 12000 → (x y : S) → IsRootSum N 1 1 (value N x) → size N (value N y) ≤ 2 ^ 80
+  pub turn_sizes : (m N : ℕ) → 0 < m → m ≡ N → m ≤ 12000 → (x y : S) → IsRootSum N 1 1 (value N x) → size N
+      (value N y) ≤ 2 ^ 80
       → size m (value m x) * size m (value m y) ≤ 2 ^ 100
   turn_sizes m N positive same limited x y h l =
       let k = subst (λ n. IsRootSum n 1 1 (value n x)) (sym same) h in

@@ -18,7 +18,8 @@ use Rattle.irr_star.specs.Stars.{AreArmsOf}
 use Rattle.irr_star.specs.Products.{AreProducts}
 use Rattle.irr_star.specs.declared.full.Full.{Full}
 
-pub record IsInduced {X : Type 0} {V : Ghosts X} (group : Group) {k : WaveVector} (S : Star (sign_of group.phase) (stands_for group) k) (M : ℕ)
+pub record IsInduced {X : Type 0} {V : Ghosts X} (group : Group) {k : WaveVector}
+    (S : Star (sign_of group.phase) (stands_for group) k) (M : ℕ)
     (v : S.table.order ∣ M) {d : ℕ} (D : Representation (phases_over S.table M v) d) (full : Full X V) : Type 0 where
   pub same : IsSameGroup group full.group
   pub order : full.order.n ≡ M

@@ -10,7 +10,8 @@ use Rattle.irr_seitz.specs.OperationMeaning.{operation}
 use Rattle.irr_full.specs.Star.{Star, carrier}
 use Rattle.irr_star.specs.declared.lists.Product.{Product}
 
-pub record IsProductOf {s : Sign} {G : Operation → Type 0} {k : WaveVector} (S : Star s G k) (p : Product) : Type 0 where
+pub record IsProductOf {s : Sign} {G : Operation → Type 0} {k : WaveVector} (S : Star s G k)
+    (p : Product) : Type 0 where
   pub row : Fin S.arms
   pub inner : Fin S.places
   pub row-number : to_nat row ≡ p.arm
@@ -18,6 +19,8 @@ pub record IsProductOf {s : Sign} {G : Operation → Type 0} {k : WaveVector} (S
   pub is : operation p.op ≡ carrier S row ⊙ S.operation inner
   pub numbers : (i : Fin 3) → unsigned_abs (entry p.op.num i) ≤ 28 * p.op.den
 
-pub record AreProducts {s : Sign} {G : Operation → Type 0} {k : WaveVector} (S : Star s G k) (ps : List Product) : Type 0 where
+pub record AreProducts {s : Sign} {G : Operation → Type 0} {k : WaveVector} (S : Star s G k)
+    (ps : List Product) : Type 0 where
   pub each : (p : Product) → Contains ps p → IsProductOf S p
-  pub all : (i : Fin S.arms) (q : Fin S.places) → (p : Product) × Contains ps p × (operation p.op ≡ carrier S i ⊙ S.operation q)
+  pub all : (i : Fin S.arms) (q : Fin S.places) → (p : Product) × Contains ps p ×
+      (operation p.op ≡ carrier S i ⊙ S.operation q)

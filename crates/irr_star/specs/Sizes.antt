@@ -13,7 +13,8 @@ use Rattle.irr_rep.specs.declared.family.Family.{Family}
 use Rattle.irr_rep.specs.Family.{HasShape, matrix_at}
 
 -- entries are sums of at most 13,824 powers of z, over one denominator of at most 2^11
-pub record IsSmallFamily {X : Type 0} {V : Ghosts X} (M : ℕ) {h d : ℕ} (D : Fin h → Matrix (numbers M) d d) (f : Family X V) : Type 0 where
+pub record IsSmallFamily {X : Type 0} {V : Ghosts X} (M : ℕ) {h d : ℕ} (D : Fin h → Matrix (numbers M) d d)
+    (f : Family X V) : Type 0 where
   pub size : f.dim ≡ d
   pub shape : HasShape M h d f.mats.items
   pub matrices : (i : Fin h) → matrix_at M d f.mats.items i ≡ D i

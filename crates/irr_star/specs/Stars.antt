@@ -21,7 +21,8 @@ use Rattle.irr_little.specs.declared.arms.Arm.{Arm}
 use Rattle.irr_full.specs.Star.{Star, carrier}
 
 -- as many arms, few, each with its wave vector and its operation
-pub record AreArmsOf (group : Group) (arms : List Arm) {k : WaveVector} (S : Star (sign_of group.phase) (stands_for group) k) : Type 0 where
+pub record AreArmsOf (group : Group) (arms : List Arm) {k : WaveVector}
+    (S : Star (sign_of group.phase) (stands_for group) k) : Type 0 where
   pub count : length arms ≡ S.arms
   pub few : length arms ≤ 48
   pub wave : (i : Fin S.arms) (a : Arm) → wave_vector (slice_index_or arms (to_nat i) a).wave ≡ S.arm i
@@ -30,7 +31,8 @@ pub record AreArmsOf (group : Group) (arms : List Arm) {k : WaveVector} (S : Sta
       → operation (slice_index_or group.ops.items (slice_index_or arms (to_nat i) a).op d) ≡ carrier S i
 
 -- and as many operations of the little group, at the places of t
-pub record IsStarOf (group : Group) (arms : List Arm) (t : Twisted) {k : WaveVector} (S : Star (sign_of group.phase) (stands_for group) k) : Type 0 where
+pub record IsStarOf (group : Group) (arms : List Arm) (t : Twisted) {k : WaveVector}
+    (S : Star (sign_of group.phase) (stands_for group) k) : Type 0 where
   pub are_arms : AreArmsOf group arms S
   pub count : place_count t ≡ S.places
   pub below : (p : Fin S.places) → slice_index (operation_places t) (to_nat p) < length group.ops.items
@@ -40,7 +42,8 @@ pub record IsStarOf (group : Group) (arms : List Arm) (t : Twisted) {k : WaveVec
 -- d and a stand past the ends of the lists
 abbrev pub star_of : (group : Group) (k : WaveVector) (arms : List Arm) (t : Twisted) (d : Op) (a : Arm)
     → IsNumbering (stands_for group) (λ _. Unit {0}) (numbered group.ops.items d)
-    → AreArms group k arms → IsLittleTable group k (operation_places t) (phase_table t) → Star (sign_of group.phase) (stands_for group) k
+    → AreArms group k arms → IsLittleTable group k (operation_places t) (phase_table t) → Star (sign_of group.phase)
+    (stands_for group) k
 star_of group k arms t d a canonical are_arms little = record {
   count = length group.ops.items;
   canonical = numbered group.ops.items d;

@@ -28,7 +28,8 @@ fn copied<S: Scalar>(alloc: Global, m: &Mat<S>) -> Result<Mat<S>, Memory>
 
 /// A copy of a family. The error is want of memory.
 pub(crate) fn family<S: Scalar>(alloc: Global, f: &Family<S>) -> Result<Family<S>, Memory>
-    ensures { (M h d : ℕ) (D : Fin h → Matrix (numbers M) d d) → IsSmallFamily M D f.now → IfOk result (IsSmallFamily M D) }
+    ensures { (M h d : ℕ) (D : Fin h → Matrix (numbers M) d d) → IsSmallFamily M D f.now
+        → IfOk result (IsSmallFamily M D) }
 {
     let mut mats = Vec::new(alloc);
     for k in 0..f.mats.len() {

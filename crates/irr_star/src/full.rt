@@ -1,5 +1,5 @@
 // Full representations.
-ghost use Rattle.std.specs.Prelude.{ℕ, ◌≡◌, ◌<◌, ◌*◌, IfOk, length};
+ghost use Rattle.std.specs.Prelude.{ℕ, ◌≡◌, ◌<◌, ◌≤◌, ◌*◌, ◌↔◌, IfOk, IsTrue, length, unsigned_abs};
 ghost use Rattle.std.specs.Int.{◌∣◌};
 ghost use Rattle.irr_algebra.specs.Fin.{Fin, to_nat};
 ghost use Rattle.irr_theory.specs.FactorSystem.{Representation};
@@ -15,7 +15,7 @@ ghost use Rattle.irr_star.specs.Blocks.{AreBlocksAt, IsBlockAt};
 ghost use Rattle.irr_star.specs.Induced.{IsInduced, IsFullRepresentation};
 
 use crate::lists::{Block, Product};
-use crate::shifts::{difference, with_rotation};
+use crate::shifts::{are_all, difference, with_rotation};
 use irr_close::Group;
 use irr_cyc::{Order, Scalar};
 use irr_little::{Arm, theta};
@@ -38,12 +38,21 @@ pub struct Full<S: Scalar> {
 }
 
 impl<S: Scalar> Full<S> {
+    /// Whether the group has an operation.
+    pub fn contains(&self, op: &Op) -> bool
+        ensures { IsTrue result ↔ stands_for self.now.group (operation op.now) }
+    {
+        self.group.contains(op)
+    }
+
     /// The number of arms.
     pub fn arms(&self) -> u32
         requires { IsFullRepresentation self.now }
         ensures count { result ≡ length self.now.arms.items }
-        ensures arms { (group : Group) (k : WaveVector) (U : Star (sign_of group.phase) (stands_for group) k) (M : ℕ) (v : U.table.order ∣ M)
-            (d : ℕ) (D : Representation (phases_over U.table M v) d) → IsInduced group U M v D self.now → result ≡ U.arms }
+        ensures arms { (group : Group) (k : WaveVector) (U : Star (sign_of group.phase) (stands_for group) k)
+            (M : ℕ) (v : U.table.order ∣ M)
+            (d : ℕ) (D : Representation (phases_over U.table M v) d) → IsInduced group U M v D self.now
+            → result ≡ U.arms }
     {
         self.arms.len() as u32
     }
@@ -53,8 +62,10 @@ impl<S: Scalar> Full<S> {
         requires { IsFullRepresentation self.now }
         ensures positive { 0 < result }
         ensures rows { result ≡ length self.now.arms.items * self.now.family.dim }
-        ensures dim { (group : Group) (k : WaveVector) (U : Star (sign_of group.phase) (stands_for group) k) (M : ℕ) (v : U.table.order ∣ M)
-            (d : ℕ) (D : Representation (phases_over U.table M v) d) → IsInduced group U M v D self.now → result ≡ U.arms * d }
+        ensures dim { (group : Group) (k : WaveVector) (U : Star (sign_of group.phase) (stands_for group) k)
+            (M : ℕ) (v : U.table.order ∣ M)
+            (d : ℕ) (D : Representation (phases_over U.table M v) d) → IsInduced group U M v D self.now
+            → result ≡ U.arms * d }
     {
         self.arms() * self.family.dim
     }
@@ -76,7 +87,8 @@ impl<S: Scalar> Full<S> {
         ensures row { result.row < length self.now.arms.items }
         ensures place { result.place < length self.now.family.mats.items }
         ensures exponent { result.exponent < self.now.order.n }
-        ensures block { (group : Group) (k : WaveVector) (U : Star (sign_of group.phase) (stands_for group) k) (M : ℕ) (v : U.table.order ∣ M)
+        ensures block { (group : Group) (k : WaveVector) (U : Star (sign_of group.phase) (stands_for group) k)
+            (M : ℕ) (v : U.table.order ∣ M)
             (d : ℕ) (D : Representation (phases_over U.table M v) d) → IsInduced group U M v D self.now
             → (j : Fin U.arms) → to_nat j ≡ column → IsBlockAt U M (operation op.now) j result }
     {
@@ -100,7 +112,8 @@ impl<S: Scalar> Full<S> {
         requires member { stands_for self.now.group (operation op.now) }
         requires small { HasSmallVector op.now }
         ensures count { IfOk result (λ bs. length bs.items ≡ length self.now.arms.items) }
-        ensures blocks { (group : Group) (k : WaveVector) (U : Star (sign_of group.phase) (stands_for group) k) (M : ℕ) (v : U.table.order ∣ M)
+        ensures blocks { (group : Group) (k : WaveVector) (U : Star (sign_of group.phase) (stands_for group) k)
+            (M : ℕ) (v : U.table.order ∣ M)
             (d : ℕ) (D : Representation (phases_over U.table M v) d) → IsInduced group U M v D self.now
             → IfOk result (λ bs. AreBlocksAt U M (operation op.now) bs.items) }
     {
@@ -110,4 +123,23 @@ impl<S: Scalar> Full<S> {
         }
         Ok(blocks)
     }
+}
+
+// Whether a number is at most a limit in absolute value.
+fn is_at_most(number: i64, limit: u64) -> bool
+    ensures { IsTrue result ↔ (unsigned_abs number ≤ limit) }
+{
+    number.unsigned_abs() <= limit
+}
+
+/// Whether no component of the vector of an operation is above 100,000 in absolute value.
+pub fn has_small_vector(op: &Op) -> bool
+    ensures { IsTrue result ↔ HasSmallVector op.now }
+{
+    let limit = 100_000 * u64::from(op.den);
+    are_all(
+        is_at_most(op.num[0], limit),
+        is_at_most(op.num[1], limit),
+        is_at_most(op.num[2], limit),
+    )
 }

@@ -33,11 +33,15 @@ pub fn induce<S: Scalar>(
     t: &Twisted,
     f: &Family<S>,
 ) -> Result<Full<S>, Memory>
-    requires small { (k : WaveVector) × (U : Star (sign_of group.now.phase) (stands_for group.now) k) × (M : ℕ) × (v : U.table.order ∣ M)
-        × (d : ℕ) × (D : Representation (phases_over U.table M v) d) × IsStarOf group.now star.now.arms.items t.now U × IsSmallFamily M D.at f.now }
+    requires small { (k : WaveVector) × (U : Star (sign_of group.now.phase) (stands_for group.now) k) × (M : ℕ)
+        × (v : U.table.order ∣ M)
+        × (d : ℕ) × (D : Representation (phases_over U.table M v) d) × IsStarOf group.now star.now.arms.items t.now U
+        × IsSmallFamily M D.at f.now }
     requires limits { All (λ a. IsWithinLimits a.wave) star.now.arms.items }
-    ensures { (k : WaveVector) (U : Star (sign_of group.now.phase) (stands_for group.now) k) (M : ℕ) (v : U.table.order ∣ M)
-        (d : ℕ) (D : Representation (phases_over U.table M v) d) → IsStarOf group.now star.now.arms.items t.now U → IsSmallFamily M D.at f.now
+    ensures { (k : WaveVector) (U : Star (sign_of group.now.phase) (stands_for group.now) k)
+        (M : ℕ) (v : U.table.order ∣ M)
+        (d : ℕ) (D : Representation (phases_over U.table M v) d) → IsStarOf group.now star.now.arms.items t.now U
+        → IsSmallFamily M D.at f.now
         → IfOk result (IsInduced group.now U M v D) }
 {
     let order = Order::new(alloc, f.mats[0].at(0, 0).order())?;

@@ -11,10 +11,13 @@ mod matrices;
 mod shifts;
 mod traces;
 
-pub use full::Full;
+pub use full::{Full, has_small_vector};
 pub use induction::induce;
 pub use irr_memory::Memory;
-pub use laws::{full_representations_of_groups, stars_of_lists};
+pub use laws::{
+    blocks_of_full_representations, full_representations_of_groups, limits_of_arms,
+    operations_of_equal_groups, sizes_of_full_representations, stars_of_lists,
+};
 pub use lists::Block;
 pub use traces::arm_part;
 

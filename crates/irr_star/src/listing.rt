@@ -17,12 +17,14 @@ use std::alloc::Global;
 
 // The product of the operation of the arm i and that of the place p.
 fn product(group: &Group, arms: &[Arm], t: &Twisted, i: u32, p: u32) -> Product
-    requires star { (k : WaveVector) × (U : Star (sign_of group.now.phase) (stands_for group.now) k) × IsStarOf group.now arms.now t.now U }
+    requires star { (k : WaveVector) × (U : Star (sign_of group.now.phase) (stands_for group.now) k)
+        × IsStarOf group.now arms.now t.now U }
     requires arm { i < length arms.now }
     requires place { p < place_count t.now }
     ensures arm { result.arm ≡ i }
     ensures place { result.place ≡ p }
-    ensures product { (k : WaveVector) (U : Star (sign_of group.now.phase) (stands_for group.now) k) → IsStarOf group.now arms.now t.now U
+    ensures product { (k : WaveVector) (U : Star (sign_of group.now.phase) (stands_for group.now) k)
+        → IsStarOf group.now arms.now t.now U
         → IsProductOf U result }
 {
     let ops = group.ops();
@@ -43,8 +45,10 @@ pub(crate) fn products(
     arms: &[Arm],
     t: &Twisted,
 ) -> Result<Vec<Product>, Memory>
-    requires star { (k : WaveVector) × (U : Star (sign_of group.now.phase) (stands_for group.now) k) × IsStarOf group.now arms.now t.now U }
-    ensures { (k : WaveVector) (U : Star (sign_of group.now.phase) (stands_for group.now) k) → IsStarOf group.now arms.now t.now U
+    requires star { (k : WaveVector) × (U : Star (sign_of group.now.phase) (stands_for group.now) k)
+        × IsStarOf group.now arms.now t.now U }
+    ensures { (k : WaveVector) (U : Star (sign_of group.now.phase) (stands_for group.now) k)
+        → IsStarOf group.now arms.now t.now U
         → IfOk result (λ ps. AreProducts U ps.items) }
 {
     let mut products = Vec::new(alloc);

@@ -37,7 +37,8 @@ pub(crate) fn turned<S: Scalar>(alloc: Global, order: &Order, e: u32, x: &S) -> 
     requires denominator { let n = order.now.n in denominator n (S.value n x.now) ≤ 2 ^ 60 }
     requires size { let n = order.now.n in size n (S.value n x.now) ≤ 2 ^ 80 }
     ensures order { IfOk result (λ y. S.order_of y ≡ order.now.n) }
-    ensures value { let n = order.now.n in IfOk result (λ y. S.value n y ≡ (numbers n).mul (root_power n e) (S.value n x.now)) }
+    ensures value { let n = order.now.n in IfOk result
+        (λ y. S.value n y ≡ (numbers n).mul (root_power n e) (S.value n x.now)) }
 {
     if e == 0 {
         return x.copy(alloc);
@@ -50,17 +51,20 @@ pub(crate) fn turned<S: Scalar>(alloc: Global, order: &Order, e: u32, x: &S) -> 
 }
 
 impl<S: Scalar> Full<S> {
-    // The entry in row i and column j of a block that is not 0.
-    fn block_entry(&self, alloc: Global, block: &Block, i: u32, j: u32) -> Result<S, Memory>
+    /// The entry in row i and column j of a block that is not 0. The error is want of memory.
+    pub fn block_entry(&self, alloc: Global, block: &Block, i: u32, j: u32) -> Result<S, Memory>
         requires induced { IsFullRepresentation self.now }
         requires place { block.now.place < length self.now.family.mats.items }
         requires exponent { block.now.exponent < self.now.order.n }
         requires row { i < self.now.family.dim }
         requires column { j < self.now.family.dim }
         ensures order { IfOk result (λ x. S.order_of x ≡ self.now.order.n) }
-        ensures entry { (group : Group) (k : WaveVector) (U : Star (sign_of group.phase) (stands_for group) k) (M : ℕ) (v : U.table.order ∣ M)
-            (d : ℕ) (D : Representation (phases_over U.table M v) d) → IsInduced group U M v D self.now → (p : Fin U.places) → to_nat p ≡ block.now.place
-            → IfOk result (λ x. IsEntry (scale (numbers M) (root_power M block.now.exponent) (D.at p)) i j (S.value M x)) }
+        ensures entry { (group : Group) (k : WaveVector) (U : Star (sign_of group.phase) (stands_for group) k)
+            (M : ℕ) (v : U.table.order ∣ M)
+            (d : ℕ) (D : Representation (phases_over U.table M v) d) → IsInduced group U M v D self.now
+            → (p : Fin U.places) → to_nat p ≡ block.now.place
+            → IfOk result (λ x. IsEntry (scale (numbers M) (root_power M block.now.exponent) (D.at p)) i j
+            (S.value M x)) }
     {
         let matrix = &self.family.mats[block.place as usize];
         turned(alloc, &self.order, block.exponent, matrix.at(i, j))
@@ -69,15 +73,19 @@ impl<S: Scalar> Full<S> {
     // The entry in row i and column j of the matrix with these blocks.
     fn entry(&self, alloc: Global, blocks: &[Block], i: u32, j: u32) -> Result<S, Memory>
         requires induced { IsFullRepresentation self.now }
-        requires blocks { (group : Group) (k : WaveVector) (U : Star (sign_of group.phase) (stands_for group) k) (M : ℕ) (v : U.table.order ∣ M)
-            (d : ℕ) (D : Representation (phases_over U.table M v) d) → IsInduced group U M v D self.now → (g : Operation) × AreBlocksAt U M g blocks.now }
+        requires blocks { (group : Group) (k : WaveVector) (U : Star (sign_of group.phase) (stands_for group) k)
+            (M : ℕ) (v : U.table.order ∣ M)
+            (d : ℕ) (D : Representation (phases_over U.table M v) d) → IsInduced group U M v D self.now
+            → (g : Operation) × AreBlocksAt U M g blocks.now }
         requires row { i < length self.now.arms.items * self.now.family.dim }
         requires column { j < length self.now.arms.items * self.now.family.dim }
         ensures order { IfOk result (λ x. S.order_of x ≡ self.now.order.n) }
-        ensures entry { (group : Group) (k : WaveVector) (U : Star (sign_of group.phase) (stands_for group) k) (M : ℕ) (v : U.table.order ∣ M)
+        ensures entry { (group : Group) (k : WaveVector) (U : Star (sign_of group.phase) (stands_for group) k)
+            (M : ℕ) (v : U.table.order ∣ M)
             (d : ℕ) (D : Representation (phases_over U.table M v) d) → IsInduced group U M v D self.now
             → (A : Operation → Matrix (numbers M) (times U.arms d) (times U.arms d)) → IsFullOf U M v D A
-            → (g : Operation) → stands_for group g → AreBlocksAt U M g blocks.now → IfOk result (λ x. IsEntry (A g) i j (S.value M x)) }
+            → (g : Operation) → stands_for group g → AreBlocksAt U M g blocks.now
+            → IfOk result (λ x. IsEntry (A g) i j (S.value M x)) }
     {
         let block = blocks[(j / self.family.dim) as usize];
         if block.row != i / self.family.dim {
@@ -94,7 +102,8 @@ impl<S: Scalar> Full<S> {
         requires induced { IsFullRepresentation self.now }
         requires member { stands_for self.now.group (operation op.now) }
         requires small { HasSmallVector op.now }
-        ensures { (group : Group) (k : WaveVector) (U : Star (sign_of group.phase) (stands_for group) k) (M : ℕ) (v : U.table.order ∣ M)
+        ensures { (group : Group) (k : WaveVector) (U : Star (sign_of group.phase) (stands_for group) k)
+            (M : ℕ) (v : U.table.order ∣ M)
             (d : ℕ) (D : Representation (phases_over U.table M v) d) → IsInduced group U M v D self.now
             → (A : Operation → Matrix (numbers M) (times U.arms d) (times U.arms d)) → IsFullOf U M v D A
             → IfOk result (IsMatrix M (times U.arms d) (A (operation op.now))) }

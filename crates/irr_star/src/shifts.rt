@@ -13,7 +13,8 @@ use irr_seitz::Op;
 
 /// The first product with a rotation.
 pub(crate) fn with_rotation(products: &[Product], rot: &[[i16; 3]; 3]) -> Product
-    requires { (n : ℕ) × (n < length products.now) × HoldsAt (λ p. (operation p.op).rotation ≡ rotation_of rot.now) products.now n }
+    requires { (n : ℕ) × (n < length products.now) × HoldsAt (λ p. (operation p.op).rotation ≡ rotation_of rot.now)
+        products.now n }
     ensures inside { Contains products.now result }
     ensures rotation { (operation result.op).rotation ≡ rotation_of rot.now }
 {
@@ -25,7 +26,8 @@ pub(crate) fn with_rotation(products: &[Product], rot: &[[i16; 3]; 3]) -> Produc
     unreachable!()
 }
 
-fn are_all(x: bool, y: bool, z: bool) -> bool
+/// Whether three tests hold.
+pub(crate) fn are_all(x: bool, y: bool, z: bool) -> bool
     ensures { IsTrue result ↔ (IsTrue x × IsTrue y × IsTrue z) }
 {
     x && y && z

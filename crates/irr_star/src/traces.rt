@@ -33,8 +33,10 @@ impl<S: Scalar> Full<S> {
         requires place { block.now.place < length self.now.family.mats.items }
         requires exponent { block.now.exponent < self.now.order.n }
         ensures order { IfOk result (λ x. S.order_of x ≡ self.now.order.n) }
-        ensures trace { (group : Group) (k : WaveVector) (U : Star (sign_of group.phase) (stands_for group) k) (M : ℕ) (v : U.table.order ∣ M)
-            (d : ℕ) (D : Representation (phases_over U.table M v) d) → IsInduced group U M v D self.now → (p : Fin U.places) → to_nat p ≡ block.now.place
+        ensures trace { (group : Group) (k : WaveVector) (U : Star (sign_of group.phase) (stands_for group) k)
+            (M : ℕ) (v : U.table.order ∣ M)
+            (d : ℕ) (D : Representation (phases_over U.table M v) d) → IsInduced group U M v D self.now
+            → (p : Fin U.places) → to_nat p ≡ block.now.place
             → IfOk result (λ x. S.value M x ≡ (numbers M).mul (root_power M block.now.exponent) (trace (D.at p))) }
     {
         let matrix = &self.family.mats[block.place as usize];
@@ -49,11 +51,13 @@ impl<S: Scalar> Full<S> {
         requires member { stands_for self.now.group (operation op.now) }
         requires small { HasSmallVector op.now }
         ensures order { IfOk result (λ x. S.order_of x ≡ self.now.order.n) }
-        ensures trace { (group : Group) (k : WaveVector) (U : Star (sign_of group.phase) (stands_for group) k) (M : ℕ) (v : U.table.order ∣ M)
+        ensures trace { (group : Group) (k : WaveVector) (U : Star (sign_of group.phase) (stands_for group) k)
+            (M : ℕ) (v : U.table.order ∣ M)
             (d : ℕ) (D : Representation (phases_over U.table M v) d) → IsInduced group U M v D self.now
             → (A : Operation → Matrix (numbers M) (times U.arms d) (times U.arms d)) → IsFullOf U M v D A
             → IfOk result (λ x. S.value M x ≡ trace (A (operation op.now))) }
-        ensures size { (group : Group) (k : WaveVector) (U : Star (sign_of group.phase) (stands_for group) k) (M : ℕ) (v : U.table.order ∣ M)
+        ensures size { (group : Group) (k : WaveVector) (U : Star (sign_of group.phase) (stands_for group) k)
+            (M : ℕ) (v : U.table.order ∣ M)
             (d : ℕ) (D : Representation (phases_over U.table M v) d) → IsInduced group U M v D self.now
             → IfOk result (λ x. IsRootSum M (U.arms * d) 1 (S.value M x)) }
     {
@@ -75,11 +79,14 @@ pub fn arm_part<S: Scalar>(alloc: Global, full: &Full<S>, arm: u32, op: &Op) -> 
     requires small { HasSmallVector op.now }
     requires arm { arm < length full.now.arms.items }
     ensures order { IfOk result (λ x. S.order_of x ≡ full.now.order.n) }
-    ensures trace { (group : Group) (k : WaveVector) (U : Star (sign_of group.phase) (stands_for group) k) (M : ℕ) (v : U.table.order ∣ M)
+    ensures trace { (group : Group) (k : WaveVector) (U : Star (sign_of group.phase) (stands_for group) k)
+        (M : ℕ) (v : U.table.order ∣ M)
         (d : ℕ) (D : Representation (phases_over U.table M v) d) → IsInduced group U M v D full.now
-        → (A : Operation → Matrix (numbers M) (times U.arms d) (times U.arms d)) → IsFullOf U M v D A → (i : Fin U.arms) → to_nat i ≡ arm
+        → (A : Operation → Matrix (numbers M) (times U.arms d) (times U.arms d)) → IsFullOf U M v D A → (i : Fin U.arms)
+        → to_nat i ≡ arm
         → IfOk result (λ x. S.value M x ≡ trace (block d (A (operation op.now)) i i)) }
-    ensures size { (group : Group) (k : WaveVector) (U : Star (sign_of group.phase) (stands_for group) k) (M : ℕ) (v : U.table.order ∣ M)
+    ensures size { (group : Group) (k : WaveVector) (U : Star (sign_of group.phase) (stands_for group) k)
+        (M : ℕ) (v : U.table.order ∣ M)
         (d : ℕ) (D : Representation (phases_over U.table M v) d) → IsInduced group U M v D full.now
         → IfOk result (λ x. IsRootSum M d 1 (S.value M x)) }
 {

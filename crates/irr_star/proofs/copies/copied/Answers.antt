@@ -14,9 +14,12 @@ loop-j-preserved g c =
     let y = c.at.result.now in
     let z = c.in_ok-entry.entry in
     let a = matrix_of value n m.rows m.cols m.entries.items in
-    filled-push g.S.Scalar.order_of value n m.rows m.cols a i j c.loop-j.entries.items c.push.new.self.items z c.loop-j.invariant
-    c.in_ok-push.ensures.items (subst (λ k. j < k) c.cols-j-end.ensures.value c.loop-j-test.true) (c.in_ok-entry.ensures.order ∙ c.at.ensures.order)
-    (subst (IsEntry a i j) (sym (subst (λ k. value k z ≡ value k y) c.at.ensures.order c.in_ok-entry.ensures.value)) (c.at.ensures.entry n))
+    filled-push g.S.Scalar.order_of value n m.rows m.cols a i j c.loop-j.entries.items c.push.new.self.items z
+    c.loop-j.invariant
+    c.in_ok-push.ensures.items (subst (λ k. j < k) c.cols-j-end.ensures.value c.loop-j-test.true)
+    (c.in_ok-entry.ensures.order ∙ c.at.ensures.order)
+    (subst (IsEntry a i j) (sym (subst (λ k. value k z ≡ value k y) c.at.ensures.order c.in_ok-entry.ensures.value))
+    (c.at.ensures.entry n))
 
 pub from_entries-requires-clause-one_order : goal.from_entries-requires-clause-one_order
 from_entries-requires-clause-one_order g c =

@@ -8,10 +8,12 @@ abbrev pub invariant-loop-j : goal.invariant-loop-j
 invariant-loop-j g l =
     let value = g.S.Scalar.value in
     let n = first_order g.S.Scalar.order_of l.m.entries.items in
-    Filled g.S.Scalar.order_of value n (matrix_of value n l.m.rows l.m.cols l.m.entries.items) (l.i * l.m.cols + l.j) l.entries.items
+    Filled g.S.Scalar.order_of value n (matrix_of value n l.m.rows l.m.cols l.m.entries.items)
+    (l.i * l.m.cols + l.j) l.entries.items
 
 abbrev pub invariant-loop-i : goal.invariant-loop-i
 invariant-loop-i g l =
     let value = g.S.Scalar.value in
     let n = first_order g.S.Scalar.order_of l.m.entries.items in
-    Filled g.S.Scalar.order_of value n (matrix_of value n l.m.rows l.m.cols l.m.entries.items) (l.i * l.m.cols) l.entries.items
+    Filled g.S.Scalar.order_of value n (matrix_of value n l.m.rows l.m.cols l.m.entries.items)
+    (l.i * l.m.cols) l.entries.items

@@ -8,4 +8,5 @@ use Rattle.irr_star.proofs.FamilyItems.{MatricesSoFar}
 use Rattle.irr_star.proofs.copies.family.Given as goal
 
 abbrev pub invariant-loop-k : goal.invariant-loop-k
-invariant-loop-k g l = (M h d : ℕ) (D : Fin h → Matrix (numbers M) d d) → IsSmallFamily M D l.f → MatricesSoFar M d D l.k l.mats.items
+invariant-loop-k g l = (M h d : ℕ) (D : Fin h → Matrix (numbers M) d d) → IsSmallFamily M D l.f
+    → MatricesSoFar M d D l.k l.mats.items

@@ -10,5 +10,9 @@ returns c group k U M positive v d D =
     let G = stands_for group in
     let is = (space_group group).is_group in
     let chosen = has_canonical group in
-    let full = full_matrices-is_full G is chosen U M positive v D in
-    (full_matrices G is chosen U M positive v D, full, full_representation G is chosen U M positive v D (full_matrices G is chosen U M positive v D) full)
+    let full = full_matrices-is_full G is chosen U M positive v D in (
+      full_matrices G is chosen U M positive v D,
+      full,
+      full_representation G is chosen U M positive v D
+          (full_matrices G is chosen U M positive v D) full,
+    )

@@ -13,7 +13,10 @@ use Rattle.irr_star.proofs.traces.arm_part.Goals as goal
 pub zero-requires : goal.zero-requires
 zero-requires g c =
     let e = c.requires.induced in
-    record { admitted = admitted c.args.full.now e.group e.star e.number e.divides e.small e.induced g.S.Scalar.admits g.met.S.Scalar.order_admitted }
+    record {
+      admitted = admitted c.args.full.now e.group e.star e.number e.divides e.small e.induced g.S.Scalar.admits
+          g.met.S.Scalar.order_admitted;
+    }
 
 pub returns-then-block-arm-clause-trace : goal.returns-then-block-arm-clause-trace
 returns-then-block-arm-clause-trace g c group k U M v d D is A of i e =
@@ -31,7 +34,8 @@ returns-clause-trace g c group k U M v d D is A of i e =
     let at = c.block-block.ensures.block group k U M v d D is i e in
     c.in_ok-part.ensures.trace group k U M v d D is at.inner at.inner-number
     ∙ sym (kept_trace group U M (order_positive c.args.full.now group U M v D is) v D (operation c.args.op.now)
-    (in_group c.args.full.now group U M v D is c.args.op.now c.requires.member c.requires.small) i c.block-block.result at A of
+    (in_group c.args.full.now group U M v D is c.args.op.now c.requires.member c.requires.small) i c.block-block.result
+    at A of
     (to_nat_inj at.to i (at.row-number ∙ c.if-block-arm.false ∙ sym e)))
 
 pub returns-clause-size : goal.returns-clause-size
@@ -40,4 +44,5 @@ returns-clause-size g c group k U M v d D is =
     let at = c.block-block.ensures.block group k U M v d D is i.0 i.1 in
     subst (IsRootSum M d 1) (sym (c.in_ok-part.ensures.trace group k U M v d D is at.inner at.inner-number))
     (few_kept group U M (order_positive c.args.full.now group U M v D is) v D (operation c.args.op.now)
-    (in_group c.args.full.now group U M v D is c.args.op.now c.requires.member c.requires.small) i.0 c.block-block.result at)
+    (in_group c.args.full.now group U M v D is c.args.op.now c.requires.member c.requires.small) i.0
+    c.block-block.result at)

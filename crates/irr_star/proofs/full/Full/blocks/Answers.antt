@@ -10,7 +10,8 @@ use Rattle.irr_star.proofs.full.Full.blocks.Goals as goal
 pub loop-column-init : goal.loop-column-init
 loop-column-init g c = record {
   count = ap length c.new-blocks.ensures.items;
-  so_far = λ group k U M v d D is. items_none (λ j b. IsBlockAt U M (operation c.args.op.now) j b) c.new-blocks.result.items c.new-blocks.ensures.items;
+  so_far = λ group k U M v d D is. items_none (λ j b. IsBlockAt U M (operation c.args.op.now) j b)
+      c.new-blocks.result.items c.new-blocks.ensures.items;
 }
 
 pub block-requires-clause-column : goal.block-requires-clause-column
@@ -19,9 +20,12 @@ block-requires-clause-column g c =
 
 pub loop-column-preserved : goal.loop-column-preserved
 loop-column-preserved g c = record {
-  count = ap length c.in_ok-push.ensures.items ∙ length-append c.loop-column.blocks.items (c.block.result ∷ []) ∙ ap (λ n. n + 1) c.loop-column.invariant.count;
-  so_far = λ group k U M v d D is. items_more (λ j b. IsBlockAt U M (operation c.args.op.now) j b) c.loop-column.column c.loop-column.blocks.items
-      c.push.new.self.items c.block.result (c.loop-column.invariant.so_far group k U M v d D is) c.in_ok-push.ensures.items
+  count = ap length c.in_ok-push.ensures.items ∙ length-append c.loop-column.blocks.items (c.block.result ∷ []) ∙ ap
+      (λ n. n + 1) c.loop-column.invariant.count;
+  so_far = λ group k U M v d D is. items_more (λ j b. IsBlockAt U M (operation c.args.op.now) j b) c.loop-column.column
+      c.loop-column.blocks.items
+      c.push.new.self.items c.block.result (c.loop-column.invariant.so_far group k U M v d D is)
+      c.in_ok-push.ensures.items
       (λ j e. c.block.ensures.block group k U M v d D is j e);
 }
 

@@ -17,7 +17,8 @@ use Rattle.irr_star.proofs.full.Full.blocks.Given as goal
 abbrev pub invariant-loop-column : goal.invariant-loop-column
 invariant-loop-column g l = record {
   count : length l.blocks.items ≡ l.column;
-  so_far : (group : Group) (k : WaveVector) (U : Star (sign_of group.phase) (stands_for group) k) (M : ℕ) (v : U.table.order ∣ M)
+  so_far : (group : Group) (k : WaveVector) (U : Star (sign_of group.phase) (stands_for group) k) (M : ℕ)
+      (v : U.table.order ∣ M)
       (d : ℕ) (D : Representation (phases_over U.table M v) d) → IsInduced group U M v D l.self
       → ItemsSoFar (λ j b. IsBlockAt U M (operation l.op) j b) l.column l.blocks.items;
 }

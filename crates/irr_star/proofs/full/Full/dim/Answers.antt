@@ -13,14 +13,16 @@ overflow_mul-result g c =
     let is = e.induced in
     let arms = subst (λ n. n ≤ 48) (is.arms.count) is.arms.few in
     fits_small (c.arms.result * c.args.self.now.family.dim)
-    (Nat.mul-le-mul (subst (λ n. n ≤ 48) (sym (c.arms.ensures.arms e.group e.wave e.star e.number e.divides e.size e.small is)) arms)
+    (Nat.mul-le-mul (subst (λ n. n ≤ 48) (sym (c.arms.ensures.arms e.group e.wave e.star e.number e.divides e.size
+    e.small is)) arms)
     (subst (λ n. n ≤ 48) (sym is.family.size) is.family.few))
 
 pub returns-clause-positive : goal.returns-clause-positive
 returns-clause-positive g c =
     let e = c.requires in
     let is = e.induced in
-    Nat.mul-pos (subst (λ n. 0 < n) (sym (c.arms.ensures.arms e.group e.wave e.star e.number e.divides e.size e.small is))
+    Nat.mul-pos (subst (λ n. 0 < n) (sym (c.arms.ensures.arms e.group e.wave e.star e.number e.divides e.size e.small
+    is))
     (some_arms c.args.self.now e.group e.star e.number e.divides e.small is))
     (subst (λ n. 0 < n) (sym is.family.size) is.family.shape.positive)
 
@@ -28,4 +30,5 @@ pub returns-clause-rows : goal.returns-clause-rows
 returns-clause-rows g c = ap (λ n. n * c.args.self.now.family.dim) c.arms.ensures.count
 
 pub returns-clause-dim : goal.returns-clause-dim
-returns-clause-dim g c group k U M v d D is = ap₂ (λ a b. a * b) (c.arms.ensures.arms group k U M v d D is) is.family.size
+returns-clause-dim g c group k U M v d D is = ap₂ (λ a b. a * b)
+    (c.arms.ensures.arms group k U M v d D is) is.family.size

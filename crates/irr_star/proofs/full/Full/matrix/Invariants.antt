@@ -18,13 +18,15 @@ use Rattle.irr_star.specs.Induced.{IsInduced}
 use Rattle.irr_star.proofs.full.Full.matrix.Given as goal
 
 abbrev pub invariant-loop-j : goal.invariant-loop-j
-invariant-loop-j g l = (group : Group) (k : WaveVector) (U : Star (sign_of group.phase) (stands_for group) k) (M : ℕ) (v : U.table.order ∣ M)
+invariant-loop-j g l = (group : Group) (k : WaveVector) (U : Star (sign_of group.phase) (stands_for group) k) (M : ℕ)
+    (v : U.table.order ∣ M)
     (d : ℕ) (D : Representation (phases_over U.table M v) d) → IsInduced group U M v D l.self
     → (A : Operation → Matrix (numbers M) (times U.arms d) (times U.arms d)) → IsFullOf U M v D A
     → Filled g.S.Scalar.order_of g.S.Scalar.value M (A (operation l.op)) (l.i * times U.arms d + l.j) l.entries.items
 
 abbrev pub invariant-loop-i : goal.invariant-loop-i
-invariant-loop-i g l = (group : Group) (k : WaveVector) (U : Star (sign_of group.phase) (stands_for group) k) (M : ℕ) (v : U.table.order ∣ M)
+invariant-loop-i g l = (group : Group) (k : WaveVector) (U : Star (sign_of group.phase) (stands_for group) k) (M : ℕ)
+    (v : U.table.order ∣ M)
     (d : ℕ) (D : Representation (phases_over U.table M v) d) → IsInduced group U M v D l.self
     → (A : Operation → Matrix (numbers M) (times U.arms d) (times U.arms d)) → IsFullOf U M v D A
     → Filled g.S.Scalar.order_of g.S.Scalar.value M (A (operation l.op)) (l.i * times U.arms d) l.entries.items

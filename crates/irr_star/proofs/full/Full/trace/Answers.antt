@@ -16,12 +16,16 @@ use Rattle.irr_star.proofs.full.Full.trace.Goals as goal
 pub zero-requires : goal.zero-requires
 zero-requires g c =
     let e = c.requires.induced in
-    record { admitted = admitted c.args.self.now e.group e.star e.number e.divides e.small e.induced g.S.Scalar.admits g.met.S.Scalar.order_admitted }
+    record {
+      admitted = admitted c.args.self.now e.group e.star e.number e.divides e.small e.induced g.S.Scalar.admits
+          g.met.S.Scalar.order_admitted;
+    }
 
 pub loop-arm-init : goal.loop-arm-init
 loop-arm-init g c = record {
   has_order = c.in_ok-sum.ensures.order;
-  so_far = λ group k U M v d D is A of. partial-none g.S.Scalar.order_of g.S.Scalar.value M (arm_trace M U.arms d (A (operation c.args.op.now)))
+  so_far = λ group k U M v d D is A of. partial-none g.S.Scalar.order_of g.S.Scalar.value M
+      (arm_trace M U.arms d (A (operation c.args.op.now)))
       c.in_ok-sum.sum (c.in_ok-sum.ensures.order ∙ is.order)
       (subst (λ n. g.S.Scalar.value n c.in_ok-sum.sum ≡ (numbers n).zero) is.order c.in_ok-sum.ensures.value);
   few = λ group k U M v d D is. few_none M (0 * d) (g.S.Scalar.value M c.in_ok-sum.sum)
@@ -41,7 +45,8 @@ add-requires-clause-denominators g c =
     let sum = c.loop-arm.sum in
     let M = e.number in
     let arm = c.loop-arm.arm in
-    sum_denominators value (g.S.Scalar.order_of sum) M (g.met.S.Scalar.admitted_positive (g.S.Scalar.order_of sum) (g.met.S.Scalar.order_admitted sum))
+    sum_denominators value (g.S.Scalar.order_of sum) M (g.met.S.Scalar.admitted_positive (g.S.Scalar.order_of sum)
+    (g.met.S.Scalar.order_admitted sum))
     (c.loop-arm.invariant.has_order ∙ e.induced.order) (arm * e.size) 1 e.size 1 sum c.in_ok-part.part
     (c.loop-arm.invariant.few e.group e.wave e.star M e.divides e.size e.small e.induced)
     (c.in_ok-part.ensures.size e.group e.wave e.star M e.divides e.size e.small e.induced)
@@ -56,7 +61,8 @@ add-requires-clause-sizes g c =
     let arm = c.loop-arm.arm in
     let below = subst (λ n. arm < n) c.arms-arm-end.ensures.count c.loop-arm-test.true in
     let arms = length c.args.self.now.arms.items in
-    sum_sizes value (g.S.Scalar.order_of sum) M (g.met.S.Scalar.admitted_positive (g.S.Scalar.order_of sum) (g.met.S.Scalar.order_admitted sum))
+    sum_sizes value (g.S.Scalar.order_of sum) M (g.met.S.Scalar.admitted_positive (g.S.Scalar.order_of sum)
+    (g.met.S.Scalar.order_admitted sum))
     (c.loop-arm.invariant.has_order ∙ e.induced.order) (arm * e.size) 1 e.size 1 sum c.in_ok-part.part
     (c.loop-arm.invariant.few e.group e.wave e.star M e.divides e.size e.small e.induced)
     (c.in_ok-part.ensures.size e.group e.wave e.star M e.divides e.size e.small e.induced)
@@ -77,18 +83,21 @@ loop-arm-preserved g c =
       so_far = λ group k U M v d D is A of.
           let m = A (operation c.args.op.now) in
           let i = arm_index group c.args.self.now.arms.items U is.arms arm below in
-          let added = subst (λ n. value n after ≡ (numbers n).add (value n sum) (value n part)) (c.loop-arm.invariant.has_order ∙ is.order)
+          let added = subst (λ n. value n after ≡ (numbers n).add (value n sum) (value n part))
+          (c.loop-arm.invariant.has_order ∙ is.order)
           c.in_ok-sum-2.ensures.value in
           partial-add g.S.Scalar.order_of value M (arm_trace M U.arms d m) arm sum after (value M part)
           (c.loop-arm.invariant.so_far group k U M v d D is A of)
           (c.in_ok-sum-2.ensures.order ∙ c.loop-arm.invariant.has_order ∙ is.order) added
           (c.in_ok-part.ensures.trace group k U M v d D is A of i.0 i.1 ∙ arm_trace-is M U.arms d m i.0 arm i.1);
       few = λ group k U M v d D is.
-          let added = subst (λ n. value n after ≡ (numbers n).add (value n sum) (value n part)) (c.loop-arm.invariant.has_order ∙ is.order)
+          let added = subst (λ n. value n after ≡ (numbers n).add (value n sum) (value n part))
+          (c.loop-arm.invariant.has_order ∙ is.order)
           c.in_ok-sum-2.ensures.value in
           subst (IsRootSum M ((arm + 1) * d) 1) (sym added)
           (subst (λ n. IsRootSum M n 1 ((numbers M).add (value M sum) (value M part))) (one_more arm d)
-          (IsRootSum-add_same M (c.loop-arm.invariant.few group k U M v d D is) (c.in_ok-part.ensures.size group k U M v d D is)));
+          (IsRootSum-add_same M (c.loop-arm.invariant.few group k U M v d D is)
+          (c.in_ok-part.ensures.size group k U M v d D is)));
     }
 
 pub returns-clause-order : goal.returns-clause-order
@@ -106,4 +115,5 @@ pub returns-clause-size : goal.returns-clause-size
 returns-clause-size g c group k U M v d D is =
     let last : c.loop-arm.arm ≡ c.arms-arm-end.result = search rules in
     let all = last ∙ c.arms-arm-end.ensures.arms group k U M v d D is in
-    subst (λ n. IsRootSum M (n * d) 1 (g.S.Scalar.value M c.loop-arm.sum)) all (c.loop-arm.invariant.few group k U M v d D is)
+    subst (λ n. IsRootSum M (n * d) 1 (g.S.Scalar.value M c.loop-arm.sum)) all
+    (c.loop-arm.invariant.few group k U M v d D is)

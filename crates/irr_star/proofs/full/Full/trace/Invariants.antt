@@ -22,11 +22,13 @@ use Rattle.irr_star.proofs.full.Full.trace.Given as goal
 abbrev pub invariant-loop-arm : goal.invariant-loop-arm
 invariant-loop-arm g l = record {
   has_order : g.S.Scalar.order_of l.sum ≡ l.self.order.n;
-  so_far : (group : Group) (k : WaveVector) (U : Star (sign_of group.phase) (stands_for group) k) (M : ℕ) (v : U.table.order ∣ M)
+  so_far : (group : Group) (k : WaveVector) (U : Star (sign_of group.phase) (stands_for group) k) (M : ℕ)
+      (v : U.table.order ∣ M)
       (d : ℕ) (D : Representation (phases_over U.table M v) d) → IsInduced group U M v D l.self
       → (A : Operation → Matrix (numbers M) (times U.arms d) (times U.arms d)) → IsFullOf U M v D A
       → PartialSum g.S.Scalar.order_of g.S.Scalar.value M (arm_trace M U.arms d (A (operation l.op))) l.arm l.sum;
-  few : (group : Group) (k : WaveVector) (U : Star (sign_of group.phase) (stands_for group) k) (M : ℕ) (v : U.table.order ∣ M)
+  few : (group : Group) (k : WaveVector) (U : Star (sign_of group.phase) (stands_for group) k) (M : ℕ)
+      (v : U.table.order ∣ M)
       (d : ℕ) (D : Representation (phases_over U.table M v) d) → IsInduced group U M v D l.self
       → IsRootSum M (l.arm * d) 1 (g.S.Scalar.value M l.sum);
 }
