@@ -9,3 +9,4 @@ pub mod FirstArms
 pub mod Contents
 pub mod CompleteContents
 pub mod Along
+pub mod MadeFulls

@@ -2,3 +2,4 @@ pub mod FullText
 pub mod Lines
 pub mod Reading
 pub mod Printed
+pub mod Induced
