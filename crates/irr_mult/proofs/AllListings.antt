@@ -16,7 +16,10 @@ use Rattle.irr_rational.specs.Order.{IsBelow}
 use Rattle.irr_rational.proofs.Lexicographic.{below_irrefl}
 use Rattle.irr_theory.proofs.Existence.{dimension_exists}
 use Rattle.irr_space.specs.Operation.{WaveVector, wave_component}
-use Rattle.irr_space.specs.SpaceGroup.{Generated}
+use Rattle.irr_seitz.specs.PhaseMeaning.{sign_of}
+use Rattle.irr_close.specs.StandsFor.{stands_for}
+use Rattle.irr_close.proofs.SpaceGroups.{space_group}
+use Rattle.irr_little.proofs.Spaces.{has_canonical}
 use Rattle.irr_space.specs.Star.{IsInStar}
 use Rattle.irr_space.specs.CompleteList.{over}
 use Rattle.irr_rep.specs.Twisted.{phase_table}
@@ -44,10 +47,10 @@ module _ {S : Type 0} (order : S → ℕ) (value : (n : ℕ) → S → Number n)
   not_before i j e l = below_irrefl (wave_component (wave j)) (subst
       (λ (k : WaveVector). IsBelow (wave_component k) (wave_component (wave j))) e (t.ordered i j l))
 
-  different : (i j : Fin (length stars)) → IsInStar (Generated A.generators) (wave i) (wave j) → i ≡ j
+  different : (i j : Fin (length stars)) → IsInStar (stands_for A.group) (wave i) (wave j) → i ≡ j
   different i j h =
-      let e = same_representative (Generated A.generators) A.is_group (wave i) (wave j) (t.star i).representative
-      (t.star j).representative h in
+      let e = same_representative (stands_for A.group) (space_group A.group).is_group (wave i) (wave j) (t.star i).has.representative
+      (t.star j).has.representative h in
       elim (cases_lt (to_nat i) (to_nat j)) [
         | inl l ↦ absurd (not_before i j e l)
         | inr f ↦ (elim (cases_lt (to_nat j) (to_nat i)) [
@@ -56,46 +59,46 @@ module _ {S : Type 0} (order : S → ℕ) (value : (n : ℕ) → S → Number n)
         ])
       ]
 
-  abbrev stars_of : Stars A.sign (Generated A.generators) A.order A.at
+  abbrev stars_of : Stars (sign_of A.group.phase) (stands_for A.group) A.order A.at
   stars_of = record {
     count = length stars;
     wave = λ i. wave_vector (item stars i).wave;
-    star = λ i. star_on (t.star i).star;
-    divides = λ i. (t.star i).characters.divides;
+    star = λ i. star_on (t.star i).has.star;
+    divides = λ i. (t.star i).has.characters.divides;
     different = different;
     all = t.all;
   }
 
   -- how often the member m at the star i stands in A
-  mult : (i : Fin (length stars)) → Fin (t.star i).characters.list.count → ℕ
+  mult : (i : Fin (length stars)) → Fin (t.star i).has.characters.list.count → ℕ
   mult i m = (dimension_exists (number_field A.order A.positive)
-      (over (phase_table (item stars i).table) A.order (t.star i).characters.divides
-      ((t.star i).characters.list.member m)) (t.star i).row.part).0
+      (over (phase_table (item stars i).table) A.order (t.star i).has.characters.divides
+      ((t.star i).has.characters.list.member m)) (t.star i).row.part).0
 
-  dimension : (i : Fin (length stars)) (m : Fin (t.star i).characters.list.count) → HasDimension
-      (over (phase_table (item stars i).table) A.order (t.star i).characters.divides
-      ((t.star i).characters.list.member m)).at (t.star i).row.part.at (mult i m)
+  dimension : (i : Fin (length stars)) (m : Fin (t.star i).has.characters.list.count) → HasDimension
+      (over (phase_table (item stars i).table) A.order (t.star i).has.characters.divides
+      ((t.star i).has.characters.list.member m)).at (t.star i).row.part.at (mult i m)
   unfolding mult
   dimension i m = (dimension_exists (number_field A.order A.positive)
-      (over (phase_table (item stars i).table) A.order (t.star i).characters.divides
-      ((t.star i).characters.list.member m)) (t.star i).row.part).1
+      (over (phase_table (item stars i).table) A.order (t.star i).has.characters.divides
+      ((t.star i).has.characters.list.member m)) (t.star i).row.part).1
 
   abbrev lists_of : StarLists A.positive stars_of
   lists_of = record {
-    list = λ i. (t.star i).characters.list;
-    complete = λ i. (t.star i).complete;
-    ordered = λ i. (t.star i).ordered;
-    representative = λ i. (t.star i).representative;
+    list = λ i. (t.star i).has.characters.list;
+    complete = λ i. (t.star i).has.complete;
+    ordered = λ i. (t.star i).has.ordered;
+    representative = λ i. (t.star i).has.representative;
     mult = mult;
-    multiplicity = λ i m. star_multiplicity (Generated A.generators) A.is_group A.has_canonical A.sign A.order
+    multiplicity = λ i m. star_multiplicity (stands_for A.group) (space_group A.group).is_group (has_canonical A.group) (sign_of A.group.phase) A.order
         A.positive A.at A.is_representation
-        A.has_diagonal (star_on (t.star i).star) (t.star i).characters.divides (t.star i).characters.list
-        (t.star i).complete (t.star i).ordered
+        A.has_diagonal (star_on (t.star i).has.star) (t.star i).has.characters.divides (t.star i).has.characters.list
+        (t.star i).has.complete (t.star i).has.ordered
         (t.star i).places (t.star i).row.part (t.star i).is_part m (mult i m) (dimension i m);
   }
 
   abbrev Member : Type 0
-  Member = (i : Fin (length stars)) × Fin (t.star i).characters.list.count
+  Member = (i : Fin (length stars)) × Fin (t.star i).has.characters.list.count
 
   abbrev part_at : Member → FullPart
   part_at j = star_part lists_of j.0 j.1
@@ -119,22 +122,22 @@ module _ {S : Type 0} (order : S → ℕ) (value : (n : ℕ) → S → Number n)
     Here j = (to_nat j.0 ≡ to_nat i) × (0 < mult j.0 j.1)
 
     -- the member that stands at this star
-    back : (j : Member) → Here j → (m : Fin (t.star i).characters.list.count) × (0 < mult i m)
+    back : (j : Member) → Here j → (m : Fin (t.star i).has.characters.list.count) × (0 < mult i m)
         × (◌≡◌ {A = Member} (i, m) j)
     unfolding Here
     back j s = at_star j.0 (sym (to_nat_inj j.0 i s.0)) j.1 s.1
       where
-        at_star : (l : Fin (length stars)) → i ≡ l → (m : Fin (t.star l).characters.list.count) → 0 < mult l m
-            → (n : Fin (t.star i).characters.list.count) × (0 < mult i n) × (◌≡◌ {A = Member} (i, n) (l, m))
-        at_star l e = subst (λ l. (m : Fin (t.star l).characters.list.count) → 0 < mult l m
-            → (n : Fin (t.star i).characters.list.count) × (0 < mult i n) × (◌≡◌ {A = Member} (i, n) (l, m))) e
+        at_star : (l : Fin (length stars)) → i ≡ l → (m : Fin (t.star l).has.characters.list.count) → 0 < mult l m
+            → (n : Fin (t.star i).has.characters.list.count) × (0 < mult i n) × (◌≡◌ {A = Member} (i, n) (l, m))
+        at_star l e = subst (λ l. (m : Fin (t.star l).has.characters.list.count) → 0 < mult l m
+            → (n : Fin (t.star i).has.characters.list.count) × (0 < mult i n) × (◌≡◌ {A = Member} (i, n) (l, m))) e
             (λ m o. (m, o, refl))
 
-    here : (pushed : List Part) → IsListing (listed_part (t.star i).characters (mult i)) (λ m. 0 < mult i m)
+    here : (pushed : List Part) → IsListing (listed_part (t.star i).has.characters (mult i)) (λ m. 0 < mult i m)
         (λ m n. to_nat m < to_nat n) (map part_of pushed)
         → IsListing part_at Here Before (map part_of pushed)
     unfolding Here
-    here pushed h = listing-along (listed_part (t.star i).characters (mult i)) (λ m. 0 < mult i m)
+    here pushed h = listing-along (listed_part (t.star i).has.characters (mult i)) (λ m. 0 < mult i m)
         (λ m n. to_nat m < to_nat n) part_at Here Before
         (λ m. (i, m)) (λ m. refl) (λ m o. (refl, o)) back (λ m n l. inr (refl, omega (arith, l))) (map part_of pushed) h
 
@@ -142,10 +145,10 @@ module _ {S : Type 0} (order : S → ℕ) (value : (n : ℕ) → S → Number n)
         → ArePushed order value (item stars i) (traces_at traces (to_nat i)) old new → AllSoFar k old
         → AllSoFar (k + 1) new
     unfolding AllSoFar Here
-    more_of_all k e old new p a = from_pushed (p A.order (t.star i).characters (t.star i).row (mult i) (dimension i))
+    more_of_all k e old new p a = from_pushed (p A.order (t.star i).has.characters (t.star i).row (mult i) (dimension i))
       where
         from_pushed : (pushed : List Part) × (new ≡ old ++ pushed)
-            × IsListing (listed_part (t.star i).characters (mult i)) (λ m. 0 < mult i m) (λ m n. to_nat m < to_nat n)
+            × IsListing (listed_part (t.star i).has.characters (mult i)) (λ m. 0 < mult i m) (λ m n. to_nat m < to_nat n)
             (map part_of pushed)
             → IsListing part_at (Stands (k + 1)) Before (map part_of new)
         from_pushed (pushed, f, h) = subst (IsListing part_at (Stands (k + 1)) Before)
@@ -163,9 +166,9 @@ module _ {S : Type 0} (order : S → ℕ) (value : (n : ℕ) → S → Number n)
             i = w in omega (arith, l, f, e)))))
 
   pub all_of_all : (k : ℕ) → k ≡ length stars → (new : List Part) → AllSoFar k new
-      → ArePartsOf A.sign (Generated A.generators) A.positive A.at (item (map part_of new))
+      → ArePartsOf (sign_of A.group.phase) (stands_for A.group) A.positive A.at (item (map part_of new))
   unfolding AllSoFar
-  all_of_all k e new h = parts_of_stars (Generated A.generators) A.is_group A.has_canonical A.sign A.order A.positive
+  all_of_all k e new h = parts_of_stars (stands_for A.group) (space_group A.group).is_group (has_canonical A.group) (sign_of A.group.phase) A.order A.positive
       A.at A.is_representation A.has_diagonal
       stars_of lists_of (item (map part_of new)) (record {
         from_star = λ u. ((h.index u).0, (h.index u).1, h.is u);
@@ -194,7 +197,7 @@ module _ {S : Type 0} (order : S → ℕ) (value : (n : ℕ) → S → Number n)
     pub asked_at : (M : ℕ) × (h : HasCharacters order value M x) × IsPartRow h row
     asked_at = subst₂ (λ y rs. (M : ℕ) × (h : HasCharacters order value M y) × IsPartRow h rs) (sym same_star)
         (sym same_row)
-        (A.order, (t.star place).characters, (t.star place).row)
+        (A.order, (t.star place).has.characters, (t.star place).row)
 
     pub next_of_all : (old new : List Part) → ArePushed order value x row old new → AllSoFar k old
         → AllSoFar (k + 1) new

@@ -1,3 +1,4 @@
 pub mod Listings
 pub mod StarListings
 pub mod AllListings
+pub mod LiftedRows

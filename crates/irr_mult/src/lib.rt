@@ -3,6 +3,7 @@
 
 mod dimension;
 mod error;
+mod lifting;
 mod listing;
 mod part;
 mod star;

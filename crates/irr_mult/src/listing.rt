@@ -1,6 +1,7 @@
 // The parts of a representation, star by star.
 ghost use Rattle.std.specs.Prelude.{ℕ, ◌≡◌, ◌<◌, ◌++◌, List, [], ◌∷◌, IfOk, map};
-ghost use Rattle.irr_space.specs.SpaceGroup.{Generated};
+ghost use Rattle.irr_seitz.specs.PhaseMeaning.{sign_of};
+ghost use Rattle.irr_close.specs.StandsFor.{stands_for};
 ghost use Rattle.irr_full.specs.Parts.{ArePartsOf};
 ghost use Rattle.irr_mult.specs.Listing.{item};
 ghost use Rattle.irr_mult.specs.StarParts.{ArePushed, HasCharacters, IsPartRow, part_of};
@@ -60,7 +61,7 @@ pub fn all_parts<S: Scalar>(
 ) -> Result<Vec<Part>, Memory>
     requires { (A : SpaceRepresentation) × AreTraced S.order_of S.value A stars.now traces.now }
     ensures { (A : SpaceRepresentation) → AreTraced S.order_of S.value A stars.now traces.now
-        → IfOk result (λ parts. ArePartsOf A.sign (Generated A.generators) A.positive A.at (item (map part_of parts.items))) }
+        → IfOk result (λ parts. ArePartsOf (sign_of A.group.phase) (stands_for A.group) A.positive A.at (item (map part_of parts.items))) }
 {
     let mut parts = Vec::new(alloc);
     for i in 0..stars.len() {
