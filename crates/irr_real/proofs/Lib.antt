@@ -1,3 +1,5 @@
 pub mod Opposites
 pub mod Listed
 pub mod SquarePlaces
+pub mod FamilyTraces
+pub mod TermSums

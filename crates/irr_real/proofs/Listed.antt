@@ -1,6 +1,8 @@
 -- The operations with listed numbers.
+--   few_listed              an increasing list of numbers below n is not longer than n
+--   reversing_at            an operation with a listed number carries k to -k
 --   reversing_numbering     the operations that carry k to -k, by their numbers, are a numbering
-use Rattle.std.proofs.Common.{◌≡◌, sym, ◌∙◌, ap, subst, subst₂, ℕ, ◌<◌, List, length, get_or, slice_index, Contains, arith}
+use Rattle.std.proofs.Common.{◌≡◌, sym, ◌∙◌, ap, subst, subst₂, refl, ℕ, zero, suc, ◌<◌, ◌≤◌, List, length, get_or, slice_index, Contains, arith}
 use Rattle.std.proofs.lemmas.List.{get_or_default}
 use Rattle.std.proofs.lemmas.List.Elements.{Contains-get_or}
 use Rattle.irr_algebra.specs.Fin.{Fin, to_nat}
@@ -14,10 +16,30 @@ use Rattle.irr_seitz.specs.declared.op.Op.{Op}
 use Rattle.irr_close.specs.Canonical.{numbered}
 use Rattle.irr_close.specs.StandsFor.{stands_for}
 use Rattle.irr_close.specs.declared.group.Group.{Group}
+use Rattle.irr_little.specs.Places.{AreListed}
 use Rattle.irr_little.specs.Table.{listed_operations}
 use Rattle.irr_little.proofs.Spaces.{canonical_at, numbering_of}
 use Rattle.irr_reality.specs.Reality.{AreReversing, IsReversing}
 use Rattle.irr_real.specs.Places.{AreReversingPlaces}
+
+increasing_above : (xs : List ℕ) → ((a b : ℕ) → a < b → b < length xs → slice_index xs a < slice_index xs b) → (a : ℕ) → a < length xs
+    → a ≤ slice_index xs a
+increasing_above xs rising zero l = omega arith
+increasing_above xs rising (suc a) l =
+    let h : a ≤ slice_index xs a = increasing_above xs rising a (omega arith) in
+    let r : slice_index xs a < slice_index xs (suc a) = rising a (suc a) (omega arith) l in
+    omega arith
+
+pub few_listed : (P : ℕ → Type 0) (n : ℕ) (xs : List ℕ) → AreListed P n xs → length xs ≤ n
+few_listed P n xs so = at (length xs) refl
+  where
+    at : (h : ℕ) → length xs ≡ h → length xs ≤ n
+    at zero e = omega arith
+    at (suc h) e =
+        let l : h < length xs = omega arith in
+        let a : h ≤ slice_index xs h = increasing_above xs so.increasing h l in
+        let b : slice_index xs h < n = so.below (slice_index xs h) (Contains-get_or xs h 0 l) in
+        omega arith
 
 module _ (group : Group) (k : WaveVector) (xs : List ℕ) (places : AreReversingPlaces group k xs) (d : Op) where
   abbrev G : Operation → Type 0
