@@ -3,3 +3,4 @@ pub mod Listed
 pub mod SquarePlaces
 pub mod FamilyTraces
 pub mod TermSums
+pub mod FormTypes
