@@ -1,18 +1,19 @@
 -- The type that a sum says.
 --   whole_value, whole_few        the number of operations, as a number
 --   minus_is, plus_is, other_is   where the sum is h, -h, and neither
-use Rattle.std.proofs.Common.{◌≡◌, sym, ◌∙◌, ap, ap₂, subst, refl, ℕ, zero, suc, ◌+◌, ◌*◌, ◌<◌, ◌≤◌, ◌^◌, ℤ, pos, negsuc, arith}
+use Rattle.std.proofs.Common.{◌≡◌, sym, ◌∙◌, ap, ap₂, subst, refl, ℕ, ◌+◌, ◌*◌, ◌<◌, ◌≤◌, ◌^◌, ℤ, pos, negsuc, arith}
 use native.Mathlib.Nat as Nat
 use Rattle.irr_algebra.specs.Ring.{Ring, whole}
 use Rattle.irr_algebra.proofs.Rings.{one-mul, ring_laws, zero-add}
 use Rattle.irr_algebra.proofs.Fields.{mul_cancel, whole-ne-zero}
-use Rattle.irr_algebra.proofs.Whole.{whole-one, whole-suc, whole-zero}
+use Rattle.irr_algebra.proofs.Whole.{whole-one}
 use Rattle.irr_number.specs.Number.{Number, numbers}
 use Rattle.irr_number.proofs.NumberField.{number_field}
 use Rattle.irr_rational.specs.Integer.{integer}
 use Rattle.irr_rational.proofs.Integers.{integer-pos}
 use Rattle.irr_canonical.specs.RootSum.{IsRootSum}
-use Rattle.irr_canonical.proofs.RootSums.{IsRootSum-add_same, IsRootSum-more, IsRootSum-one, IsRootSum-zero}
+use Rattle.irr_canonical.proofs.RootSums.{IsRootSum-more}
+use Rattle.irr_rep.proofs.TraceRoots.{IsRootSum-whole}
 use Rattle.irr_forms.specs.Form.{FormType, type_integer, type_number}
 use Rattle.irr_forms.specs.Form.FormType.{symmetric, skew, none}
 use Rattle.irr_forms.proofs.FullTypes.{type_number_inj}
@@ -24,13 +25,8 @@ whole_value n h z x y e one number =
     ∙ ap₂ (λ a b. (numbers n).mul (integer (numbers n) a) b) number one
     ∙ (numbers n).mul-one (integer (numbers n) (pos h)) ∙ integer-pos (numbers n) h
 
-whole-few : (n h : ℕ) → IsRootSum n h 1 (whole (numbers n) h)
-whole-few n zero = subst (IsRootSum n 0 1) (sym (whole-zero (numbers n))) (IsRootSum-zero n 1 (omega arith))
-whole-few n (suc h) = subst (IsRootSum n (suc h) 1) (sym (whole-suc (numbers n) h))
-    (IsRootSum-more n (suc h) (omega arith) (IsRootSum-add_same n (IsRootSum-one n) (whole-few n h)))
-
 pub whole_few : (n h : ℕ) (x : Number n) → h ≤ 48 → x ≡ whole (numbers n) h → IsRootSum n 48 1 x
-whole_few n h x l e = subst (IsRootSum n 48 1) (sym e) (IsRootSum-more n 48 l (whole-few n h))
+whole_few n h x l e = subst (IsRootSum n 48 1) (sym e) (IsRootSum-more n 48 l (IsRootSum-whole n h))
 
 pub sum_room : (n : ℕ) → n ≤ 12000 → 2304 * n * 1 + 48 * n * 1 < 2 ^ 110
 sum_room n l = omega (arith, l)

@@ -4,3 +4,4 @@ pub mod SquarePlaces
 pub mod FamilyTraces
 pub mod TermSums
 pub mod FormTypes
+pub mod StarSums

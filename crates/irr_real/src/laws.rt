@@ -1,5 +1,5 @@
 // Laws of the types of full representations of groups in the program.
-ghost use Rattle.std.specs.Prelude.{ℕ, ◌≡◌, ◌<◌};
+ghost use Rattle.std.specs.Prelude.{ℕ, ◌≡◌, ◌<◌, List};
 ghost use Rattle.std.specs.Int.{◌∣◌};
 ghost use Rattle.irr_algebra.specs.Matrix.{Matrix};
 ghost use Rattle.irr_algebra.specs.Pair.{times};
@@ -20,7 +20,7 @@ ghost use Rattle.irr_full.specs.Full.{IsFullOf};
 
 /// The arms of a star and the table of the little group give a star with this table.
 pub fn stars_of_tables()
-    ensures { (group : Group) (k : WaveVector) (arms : List Arm) (t : Twisted) → AreArms group k arms
+    ensures { (group : Group) (k : WaveVector) (arms : List Arm) (t : Twisted) (a : Arm) → AreArms group k arms
         → IsLittleTable group k (operation_places t) (phase_table t)
         → (U : Star (sign_of group.phase) (stands_for group) k) × (U.places ≡ place_count t) }
 {}
