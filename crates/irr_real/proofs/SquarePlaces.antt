@@ -2,21 +2,18 @@
 --   square_listed        the canonical operation with the rotation of g g is at a place of the table
 --   turns_over           n times the product of k and the translation is whole
 --   square_is            the place and the phase are those of the square
-use Rattle.std.proofs.Common.{◌≡◌, sym, ◌∙◌, ap, subst, ℕ, ◌<◌, ◌*◌, pos, length, get_or, slice_index, Contains, arith}
+use Rattle.std.proofs.Common.{◌≡◌, sym, ◌∙◌, ap, subst, ℕ, ◌<◌, pos, length, get_or, slice_index, Contains}
 use Rattle.std.specs.Int.{◌∣◌}
-use Rattle.std.specs.List.{HoldsAt}
-use Rattle.std.proofs.lemmas.List.{get_or_default}
 use Rattle.irr_algebra.specs.Ring.{whole}
-use Rattle.irr_algebra.specs.Matrix.{◌⊖◌, null}
 use Rattle.irr_algebra.proofs.Whole.{whole-mul}
 use Rattle.irr_number.proofs.Primes.{cofactor}
 use Rattle.irr_rational.specs.Integer.{integer}
 use Rattle.irr_rational.specs.Rational.{rationals, IsWhole}
 use Rattle.irr_rational.proofs.Integers.{integer-pos}
 use Rattle.irr_rational.proofs.WholeNumbers.{whole-mul as product_whole, whole-integer}
-use Rattle.irr_space.specs.Operation.{Operation, Vector, WaveVector, ◌⊙◌, translation, turned, dot}
+use Rattle.irr_space.specs.Operation.{Operation, Vector, WaveVector, ◌⊙◌, translation, dot}
 use Rattle.irr_space.specs.SpaceGroup.{IsTranslation}
-use Rattle.irr_space.specs.Reciprocal.{AreEquivalent, IsOrder, IsPhase}
+use Rattle.irr_space.specs.Reciprocal.{IsPhase}
 use Rattle.irr_space.specs.Star.{IsInLittleGroup}
 use Rattle.irr_seitz.specs.OperationMeaning.{operation}
 use Rattle.irr_seitz.specs.PhaseMeaning.{sign_of}

@@ -8,7 +8,6 @@ use Rattle.irr_algebra.specs.Action.{IsSimple}
 use Rattle.irr_algebra.specs.Fin.{Fin, to_nat}
 use Rattle.irr_algebra.specs.Matrix.{scale, trace}
 use Rattle.irr_algebra.specs.Ring.{whole}
-use Rattle.irr_algebra.specs.Sum.{sum}
 use Rattle.irr_algebra.proofs.Indices.{from_nat, to_nat-from_nat, to_nat-lt, to_nat_inj}
 use Rattle.irr_algebra.proofs.Listed.{sum-to_nat}
 use Rattle.irr_algebra.proofs.Matrices.{trace-scale}
@@ -33,7 +32,6 @@ use Rattle.irr_close.proofs.Bareness.{first_of}
 use Rattle.irr_close.proofs.SpaceGroups.{space_group}
 use Rattle.irr_little.specs.Table.{IsLittleTable, listed_operations}
 use Rattle.irr_little.proofs.Spaces.{form_of, has_canonical}
-use Rattle.irr_full.specs.Full.{IsLittleMatrix}
 use Rattle.irr_full.specs.Star.{Star}
 use Rattle.irr_full.proofs.FullExistence.{full_matrices, full_matrices-is_full}
 use Rattle.irr_full.proofs.SameStars.{increasing, place_in, place_in-is, there_back}

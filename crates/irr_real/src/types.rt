@@ -28,12 +28,7 @@ use irr_rep::{Family, Twisted};
 use std::alloc::Global;
 
 // The type whose number times `count` is the sum: 1, -1 or 0.
-fn type_of_sum<S: Scalar>(
-    alloc: Global,
-    order: &Order,
-    sum: &S,
-    count: u32,
-) -> Result<i8, Memory>
+fn type_of_sum<S: Scalar>(alloc: Global, order: &Order, sum: &S, count: u32) -> Result<i8, Memory>
     requires order { S.order_of sum.now ≡ order.now.n }
     requires few { let n = order.now.n in IsRootSum n 2304 1 (S.value n sum.now) }
     requires positive { 0 < count }

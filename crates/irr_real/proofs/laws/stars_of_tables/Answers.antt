@@ -6,7 +6,6 @@ use Rattle.irr_rep.specs.Twisted.{operation_places, phase_table, place_count}
 use Rattle.irr_close.specs.Canonical.{numbered}
 use Rattle.irr_close.proofs.Bareness.{first_of}
 use Rattle.irr_little.specs.Table.{listed_operations}
-use Rattle.irr_little.specs.declared.arms.Arm.{Arm}
 use Rattle.irr_little.proofs.Spaces.{form_of, numbering_of}
 use Rattle.irr_real.proofs.laws.stars_of_tables.Goals as goal
 

@@ -1,5 +1,4 @@
 -- The place and the phase of a square.
-use Rattle.std.proofs.Common.{◌≡◌}
 use Rattle.irr_kvec.specs.WaveMeaning.{wave_vector}
 use Rattle.irr_rat.specs.VectorMeaning.{vector}
 use Rattle.irr_real.proofs.SquarePlaces.{square_is, square_listed, turns_over}

@@ -1,6 +1,5 @@
 -- A power of z times a trace.
-use Rattle.std.proofs.Common.{◌≡◌, sym, ◌∙◌, ap, ap₂, subst, ◌^◌, arith}
-use Rattle.irr_algebra.specs.Matrix.{trace}
+use Rattle.std.proofs.Common.{◌≡◌, sym, ◌∙◌, ap₂, subst, ◌^◌, arith}
 use Rattle.irr_number.specs.Number.{numbers}
 use Rattle.irr_canonical.specs.RootSum.{IsRootSum}
 use Rattle.irr_canonical.proofs.RootSums.{IsRootSum-root}

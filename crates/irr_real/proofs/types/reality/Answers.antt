@@ -1,5 +1,5 @@
 -- The type by the sum.
-use Rattle.std.proofs.Common.{◌≡◌, sym, ◌∙◌, ap, subst, subst₂, refl, ℕ, ◌<◌, ◌*◌, ℤ, length, to_z, of_z}
+use Rattle.std.proofs.Common.{◌≡◌, sym, ◌∙◌, ap, subst, subst₂, refl, ℕ, ◌<◌, to_z, of_z}
 use Rattle.std.specs.Int.{w8}
 use Rattle.irr_algebra.specs.Fin.{Fin}
 use Rattle.irr_algebra.specs.Matrix.{Matrix}

@@ -1,5 +1,5 @@
 -- The sum is h, -h or 0.
-use Rattle.std.proofs.Common.{◌≡◌, sym, ◌∙◌, ap, subst, ℕ, ◌*◌, ◌<◌, ◌≤◌, ◌^◌, Bool, true, false, IsTrue, pos, to_z, of_z, unsigned_abs, arith, rules}
+use Rattle.std.proofs.Common.{◌≡◌, sym, ◌∙◌, subst, ℕ, ◌*◌, ◌<◌, ◌≤◌, ◌^◌, Bool, true, false, IsTrue, to_z, of_z, unsigned_abs, arith, rules}
 use Rattle.std.specs.Int.{w64}
 use Rattle.std.proofs.lemmas.Int.{to_z-of_z}
 use native.Mathlib.Nat as Nat
