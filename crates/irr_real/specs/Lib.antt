@@ -1,0 +1,4 @@
+pub mod Places
+pub mod Families
+pub mod Squares
+pub mod Answer
