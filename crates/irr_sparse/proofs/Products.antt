@@ -3,7 +3,7 @@
 --   product-start, product-next, product-end    one row after another
 --   terms-scaled, total-scaled            multiples
 --   combined-next, combined-end           combinations
-use Rattle.std.proofs.Common.{subst, ◌≡◌, ◌≢◌, sym, ◌∙◌, ap, ap₂, ℕ, ℤ, suc, pos, ◌+◌, ◌*◌, ◌^◌, ◌<◌, ◌≤◌, ◌*ℤ◌, List, [], ◌∷◌, ◌++◌, take, drop, map, length, unsigned_abs, All, arith}
+use Rattle.std.proofs.Common.{refl, ◌-◌, ◌/◌, ◌%◌, subst, ◌≡◌, ◌≢◌, sym, ◌∙◌, ap, ap₂, ℕ, ℤ, suc, pos, ◌+◌, ◌*◌, ◌^◌, ◌<◌, ◌≤◌, ◌*ℤ◌, List, [], ◌∷◌, ◌++◌, take, drop, map, length, unsigned_abs, All, arith}
 use Rattle.std.proofs.lemmas.Int.{unsigned_abs-mul}
 use Rattle.std.proofs.lemmas.List.{drop_more, nil_from_length, take_all, take_more}
 use Rattle.std.proofs.lemmas.List.Elements.{All-from_get_or, All-weaker}
@@ -12,6 +12,7 @@ use Rattle.std.proofs.Math.Seq.{take-append_seam}
 use native.Mathlib.Nat as Nat
 use Rattle.irr_algebra.specs.Ring.{Ring}
 use Rattle.irr_algebra.proofs.Rings.{one-mul, ring_laws, zero-add, zero-mul}
+use Rattle.irr_number.specs.Basis.{InBasis}
 use Rattle.irr_number.specs.Number.{Number, numbers, root_power}
 use Rattle.irr_number.proofs.RootPowers.{root_power-zero}
 use Rattle.irr_rational.specs.Integer.{integer}
@@ -20,7 +21,7 @@ use Rattle.irr_cyc.specs.Terms.{terms_sum}
 use Rattle.irr_sparse.specs.TermList.{AreTerms, IsTerm, coefficient_at, exponent_at, row_sum, total}
 use Rattle.irr_sparse.proofs.Lists.{terms-at, terms-cons, terms-head, terms-none, terms-tail}
 use Rattle.irr_sparse.proofs.Rows.{product-ne-zero}
-use Rattle.irr_sparse.proofs.Sums.{row-product, sum-cons, sum-more, sum-none, sum-scaled, term_value}
+use Rattle.irr_sparse.proofs.Sums.{row-product, sum-cons, sum-more, sum-none, sum-one, sum-scaled, term_value}
 use Rattle.irr_sparse.proofs.Values.{exponents-below}
 
 pub each-inside : (n b : ℕ) (ts : List (ℕ × ℤ)) → AreTerms n b ts → All (λ t. 1 * t.0 < n) ts
@@ -222,3 +223,16 @@ module _ (xs : List (ℕ × ℤ)) (i : ℕ) (lt : i < length xs) where
 
   pub merge-product : (all m : ℕ) → total xs * m + all < 2 ^ 110 → unsigned_abs (coefficient_at xs i) * m < 2 ^ 127
   merge-product all m small = factor-small xs m i lt (omega arith)
+
+-- 1 is in the basis
+pub terms-one : (n : ℕ) → 0 < n → AreTerms n 0 ((0, pos 1) ∷ [])
+terms-one n p = terms-cons n 0 (0, pos 1) [] (record { from = omega arith; below = p; basis = in_basis; nonzero = λ e. one_or_none (unsigned_abs (pos 0)) refl (ap unsigned_abs e) }) (terms-none n 1)
+  where
+    one_or_none : (k : ℕ) → 0 ≡ k → 1 ≡ k → ⊥
+    one_or_none k e f = omega (arith, e, f)
+
+    in_basis : InBasis n 0
+    in_basis q m hq hm hi e = let one : 1 < q = hq.0 in let z : (0 % q ^ m) / q ^ (m - 1) ≡ 0 = ap (λ x. x / q ^ (m - 1)) (Nat.zero-mod (q ^ m)) ∙ Nat.zero-div (q ^ (m - 1)) in omega (arith, e, z)
+
+pub sum-unit : (n : ℕ) → terms_sum n ((0, pos 1) ∷ []) ≡ root_power n 0
+sum-unit n = sum-one n (0, pos 1) ∙ ap (λ x. (numbers n).mul x (root_power n 0)) (integer-one (numbers n)) ∙ one-mul (numbers n) (root_power n 0)

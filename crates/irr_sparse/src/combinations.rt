@@ -20,6 +20,11 @@ pub(crate) fn power(alloc: Global, n: u32, exponent: u32) -> Result<Vec<(u32, i1
     ensures terms { IfOk result (λ v. AreTerms n 0 v.items) }
     ensures sum { IfOk result (λ v. terms_sum n v.items ≡ root_power n exponent) }
 {
+    if exponent == 0 {
+        let mut one = Vec::with_capacity(alloc, 1)?;
+        one.push((0, 1))?;
+        return Ok(one);
+    }
     let parts = parts_of(n);
     let mut sums = Vec::new(alloc);
     add_power(&mut sums, n, parts.as_slice(), exponent, 1)?;

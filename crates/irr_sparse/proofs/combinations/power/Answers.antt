@@ -1,11 +1,12 @@
 -- The terms of one power.
-use Rattle.std.proofs.Common.{sym, subst, ℕ, ℤ, List}
+use Rattle.std.proofs.Common.{◌≡◌, sym, ◌∙◌, ap, subst, ℕ, ℤ, pos, ◌<◌, List, [], ◌∷◌, ◌++◌, arith}
+use Rattle.irr_number.specs.Number.{root_power}
 use Rattle.irr_cyc.specs.Terms.{terms_sum}
 use Rattle.irr_sparse.specs.Parts.{IsFreeOutside}
 use Rattle.irr_sparse.specs.TermList.{AreTerms}
 use Rattle.irr_sparse.specs.declared.parts.Part.{Part}
 use Rattle.irr_sparse.proofs.Lists.{terms-none}
-use Rattle.irr_sparse.proofs.Products.{alone}
+use Rattle.irr_sparse.proofs.Products.{alone, sum-unit, terms-one}
 use Rattle.irr_sparse.proofs.combinations.power.Goals as goal
 
 pub add_power-requires-clause-free : goal.add_power-requires-clause-free
@@ -16,3 +17,16 @@ add_power-requires-clause-terms c = subst (λ (ts : List (ℕ × ℤ)). AreTerms
 
 pub returns-clause-sum : goal.returns-clause-sum
 returns-clause-sum c = alone c.args.n c.args.exponent c.new-sums.result.items (terms_sum c.args.n c.add_power.new.terms.items) c.new-sums.ensures.items c.in_ok-add_power.ensures.sum
+
+-- 1 alone
+one-terms : (n j : ℕ) (ts us : List (ℕ × ℤ)) → j < n → j ≡ 0 → ts ≡ [] → us ≡ ts ++ (0, pos 1) ∷ [] → AreTerms n 0 us
+one-terms n j ts us lt z e is = subst (AreTerms n 0) (sym (is ∙ ap (λ xs. xs ++ (0, pos 1) ∷ []) e)) (terms-one n (omega arith))
+
+one-sum : (n j : ℕ) (ts us : List (ℕ × ℤ)) → j ≡ 0 → ts ≡ [] → us ≡ ts ++ (0, pos 1) ∷ [] → terms_sum n us ≡ root_power n j
+one-sum n j ts us z e is = ap (terms_sum n) (is ∙ ap (λ xs. xs ++ (0, pos 1) ∷ []) e) ∙ sum-unit n ∙ ap (root_power n) (sym z)
+
+pub returns-then-exponent-eq0-clause-terms : goal.returns-then-exponent-eq0-clause-terms
+returns-then-exponent-eq0-clause-terms c = one-terms c.args.n c.args.exponent c.in_ok-one.one.items c.push.new.self.items c.requires.inside c.if-exponent-eq0.true c.in_ok-one.ensures.items c.in_ok-push.ensures.items
+
+pub returns-then-exponent-eq0-clause-sum : goal.returns-then-exponent-eq0-clause-sum
+returns-then-exponent-eq0-clause-sum c = one-sum c.args.n c.args.exponent c.in_ok-one.one.items c.push.new.self.items c.if-exponent-eq0.true c.in_ok-one.ensures.items c.in_ok-push.ensures.items
