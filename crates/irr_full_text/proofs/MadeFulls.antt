@@ -24,11 +24,13 @@ use Rattle.irr_star.specs.Induced.{IsInduced}
 use Rattle.irr_star.specs.declared.full.Full.{Full}
 use Rattle.irr_full_text.specs.Induced.{SmallLists, AreInducedBy}
 
-pub small_over : {X : Type 0} {V : Ghosts X} {h : ℕ} (T : PhaseTable h) (v : T.order ∣ T.order) {d : ℕ} (D : Representation (phases_at T) d)
+pub small_over : {X : Type 0} {V : Ghosts X} {h : ℕ} (T : PhaseTable h) (v : T.order ∣ T.order) {d : ℕ}
+    (D : Representation (phases_at T) d)
     (f : Family X V) → IsSmallFamily T.order D.at f → IsSmallFamily T.order (over T T.order v D).at f
 small_over T v D f s = subst (λ A. IsSmallFamily T.order A f) (fun_ext (λ i. sym (at_own_order-over T v D i))) s
 
-pub pushed : {X : Type 0} (P : ℕ → X → Type 0) (xs : List X) (x : X) → ((i : ℕ) (d : X) → i < length xs → P i (get_or xs i d)) → P (length xs) x
+pub pushed : {X : Type 0} (P : ℕ → X → Type 0) (xs : List X) (x : X)
+    → ((i : ℕ) (d : X) → i < length xs → P i (get_or xs i d)) → P (length xs) x
     → (i : ℕ) (d : X) → i < length xs + 1 → P i (get_or (xs ++ x ∷ []) i d)
 pushed P xs x all last i d l = elim (cases_lt i (length xs)) [
   | inl below ↦ subst (P i) (sym (get_or_append_left xs (x ∷ []) d i below)) (all i d below)
@@ -38,16 +40,22 @@ pushed P xs x all last i d l = elim (cases_lt i (length xs)) [
 ]
 
 -- the family of a member of the list
-pub small_at : {X : Type 0} {V : Ghosts X} {group : Group} {arms : List Arm} {t : Twisted} {fs : List (Family X V)} (e : SmallLists group arms t fs)
-    (v : e.star.table.order ∣ e.star.table.order) (k : ℕ) (f : Family X V) (m : Fin e.list.count) → to_nat m ≡ k → f ≡ get_or fs k f
+pub small_at : {X : Type 0} {V : Ghosts X} {group : Group} {arms : List Arm} {t : Twisted} {fs : List (Family X V)}
+    (e : SmallLists group arms t fs)
+    (v : e.star.table.order ∣ e.star.table.order) (k : ℕ) (f : Family X V) (m : Fin e.list.count) → to_nat m ≡ k → f
+    ≡ get_or fs k f
     → IsSmallFamily e.star.table.order (over e.star.table e.star.table.order v (e.list.member m)).at f
 small_at {fs = fs} e v k f m at is = small_over e.star.table v (e.list.member m) f
-    (subst (IsSmallFamily e.star.table.order (e.list.member m).at) (sym (is ∙ ap (λ n. get_or fs n f) (sym at))) (e.small m f))
+    (subst (IsSmallFamily e.star.table.order (e.list.member m).at) (sym (is ∙ ap (λ n. get_or fs n f) (sym at)))
+    (e.small m f))
 
-pub induced_all : {X : Type 0} {V : Ghosts X} {group : Group} {arms : List Arm} {t : Twisted} {fs : List (Family X V)} (e : SmallLists group arms t fs)
-    (fulls : List (Full X V)) → length fulls ≡ e.list.count → ((v : e.star.table.order ∣ e.star.table.order) (i : ℕ) (f : Full X V) → i < length fulls
+pub induced_all : {X : Type 0} {V : Ghosts X} {group : Group} {arms : List Arm} {t : Twisted} {fs : List (Family X V)}
+    (e : SmallLists group arms t fs)
+    (fulls : List (Full X V)) → length fulls ≡ e.list.count
+    → ((v : e.star.table.order ∣ e.star.table.order) (i : ℕ) (f : Full X V) → i < length fulls
     → (m : Fin e.list.count) → to_nat m ≡ i
-    → IsInduced group e.star e.star.table.order v (over e.star.table e.star.table.order v (e.list.member m)) (get_or fulls i f)) → AreInducedBy e fulls
+    → IsInduced group e.star e.star.table.order v (over e.star.table e.star.table.order v (e.list.member m))
+    (get_or fulls i f)) → AreInducedBy e fulls
 induced_all e fulls count made = record {
   count = count;
   induced = λ v m f. made v (to_nat m) f (subst (λ n. to_nat m < n) (sym count) (to_nat-lt m)) m refl;

@@ -1,6 +1,6 @@
 -- Lists of small representations in the program, and the full representations that they induce.
---   SmallLists group arms t fs     a star with these arms and places, and a list of small representations of its table, which are
---                                  the families fs with small entries
+--   SmallLists group arms t fs     a star with these arms and places, and a list of small representations of its
+--                                  table, which are the families fs with small entries
 --   AreInducedBy e fulls           fulls are the full representations of that list, in order
 use Rattle.std.specs.Prelude.{◌≡◌, List, length, slice_index_or}
 use Rattle.std.specs.Int.{◌∣◌}
@@ -22,16 +22,20 @@ use Rattle.irr_star.specs.Stars.{IsStarOf}
 use Rattle.irr_star.specs.Induced.{IsInduced}
 use Rattle.irr_star.specs.declared.full.Full.{Full}
 
-pub record SmallLists {X : Type 0} {V : Ghosts X} (group : Group) (arms : List Arm) (t : Twisted) (fs : List (Family X V)) : Type 0 where
+pub record SmallLists {X : Type 0} {V : Ghosts X} (group : Group) (arms : List Arm) (t : Twisted)
+    (fs : List (Family X V)) : Type 0 where
   pub wave : WaveVector
   pub star : Star (sign_of group.phase) (stands_for group) wave
   pub is_star : IsStarOf group arms t star
   pub list : Representations (phases_at star.table)
   pub count : length fs ≡ list.count
-  pub small : (m : Fin list.count) (f : Family X V) → IsSmallFamily star.table.order (list.member m).at (slice_index_or fs (to_nat m) f)
+  pub small : (m : Fin list.count) (f : Family X V) → IsSmallFamily star.table.order (list.member m).at
+      (slice_index_or fs (to_nat m) f)
 
-pub record AreInducedBy {X : Type 0} {V : Ghosts X} {group : Group} {arms : List Arm} {t : Twisted} {fs : List (Family X V)}
+pub record AreInducedBy {X : Type 0} {V : Ghosts X} {group : Group} {arms : List Arm} {t : Twisted}
+    {fs : List (Family X V)}
     (e : SmallLists group arms t fs) (fulls : List (Full X V)) : Type 0 where
   pub count : length fulls ≡ e.list.count
   pub induced : (v : e.star.table.order ∣ e.star.table.order) (m : Fin e.list.count) (f : Full X V)
-      → IsInduced group e.star e.star.table.order v (over e.star.table e.star.table.order v (e.list.member m)) (slice_index_or fulls (to_nat m) f)
+      → IsInduced group e.star e.star.table.order v (over e.star.table e.star.table.order v (e.list.member m))
+      (slice_index_or fulls (to_nat m) f)

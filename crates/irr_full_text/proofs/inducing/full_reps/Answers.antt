@@ -20,7 +20,8 @@ induce-requires-clause-small g c =
     let e = c.requires.lists in
     let N = e.star.table.order in
     let v = Nat.dvd_refl N in
-    let inside : c.loop-family.family-index < e.list.count = subst (λ n. c.loop-family.family-index < n) e.count c.loop-family-test.true in
+    let inside : c.loop-family.family-index < e.list.count = subst (λ n. c.loop-family.family-index < n) e.count
+    c.loop-family-test.true in
     let m = from_nat e.list.count c.loop-family.family-index inside in (
       e.wave,
       e.star,
@@ -29,22 +30,28 @@ induce-requires-clause-small g c =
       e.list.size m,
       over e.star.table N v (e.list.member m),
       e.is_star,
-      small_at e v c.loop-family.family-index c.family-item.result m (to_nat-from_nat e.list.count c.loop-family.family-index inside) c.family-item.is,
+      small_at e v c.loop-family.family-index c.family-item.result m
+          (to_nat-from_nat e.list.count c.loop-family.family-index inside) c.family-item.is,
     )
 
 pub loop-family-preserved : goal.loop-family-preserved
 loop-family-preserved g c =
     let xs = c.loop-family.fulls.items in
     let x = c.in_ok-full.full in
-    let long : length c.push.new.self.items ≡ length xs + 1 = ap length c.in_ok-push.ensures.items ∙ length-append xs (x ∷ []) in (
+    let long : length c.push.new.self.items ≡ length xs + 1 = ap length c.in_ok-push.ensures.items
+    ∙ length-append xs (x ∷ []) in (
       long ∙ ap (λ n. n + 1) c.loop-family.invariant.0,
-      λ e v i f l m at. subst (λ ys. IsInduced c.args.group.now e.star e.star.table.order v (over e.star.table e.star.table.order v (e.list.member m)) (get_or ys i f))
+      λ e v i f l m at. subst (λ ys. IsInduced c.args.group.now e.star e.star.table.order v
+          (over e.star.table e.star.table.order v (e.list.member m)) (get_or ys i f))
           (sym c.in_ok-push.ensures.items)
           (pushed (λ n (y : Full _ _). (m : Fin e.list.count) → to_nat m ≡ n
-          → IsInduced c.args.group.now e.star e.star.table.order v (over e.star.table e.star.table.order v (e.list.member m)) y) xs x
+          → IsInduced c.args.group.now e.star e.star.table.order v
+          (over e.star.table e.star.table.order v (e.list.member m)) y) xs x
           (λ n d b. c.loop-family.invariant.1 e v n d b)
-          (λ k is. c.in_ok-full.ensures e.wave e.star e.star.table.order v (e.list.size k) (over e.star.table e.star.table.order v (e.list.member k)) e.is_star
-          (small_at e v c.loop-family.family-index c.family-item.result k (is ∙ c.loop-family.invariant.0) c.family-item.is))
+          (λ k is. c.in_ok-full.ensures e.wave e.star e.star.table.order v (e.list.size k)
+          (over e.star.table e.star.table.order v (e.list.member k)) e.is_star
+          (small_at e v c.loop-family.family-index c.family-item.result k (is ∙ c.loop-family.invariant.0)
+          c.family-item.is))
           i f (subst (λ n. i < n) long l) m at),
     )
 
@@ -53,4 +60,5 @@ returns g c = λ e.
     let end : length c.args.families.now ≤ c.loop-family.family-index = c.loop-family-test.false in
     let past : c.loop-family.family-index ≤ length c.args.families.now = c.loop-family.auto.family-index-end in
     let all : length c.args.families.now ≡ c.loop-family.family-index = omega (arith, end, past) in
-    induced_all e c.loop-family.fulls.items (c.loop-family.invariant.0 ∙ sym all ∙ e.count) (c.loop-family.invariant.1 e)
+    induced_all e c.loop-family.fulls.items (c.loop-family.invariant.0 ∙ sym all ∙ e.count)
+    (c.loop-family.invariant.1 e)
