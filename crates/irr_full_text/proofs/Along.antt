@@ -29,7 +29,12 @@ module _ (G H : Operation → Type 0) (same : (g : Operation) → G g ↔ H g) w
   little_along k g l = record { member = (same g).0 l.member; keeps = reciprocal_along _ l.keeps }
 
   pub carries_along : (g : Operation) (k w : WaveVector) → Carries G g k w → Carries H g k w
-  carries_along g k w c = record { image = c.image; turned_back = c.turned_back; equivalent = reciprocal_along _ c.equivalent }
+  carries_along g k w c = record {
+    image = c.image;
+    turned_back = c.turned_back;
+    equivalent = reciprocal_along _
+        c.equivalent;
+  }
 
   in_star_along : (k w : WaveVector) → IsInStar G k w → IsInStar H k w
   in_star_along k w s = record {
@@ -49,7 +54,8 @@ module _ (G H : Operation → Type 0) (same : (g : Operation) → G g ↔ H g) w
     least = λ w q m. e.least w (reciprocal_along H G back _ q) m;
   }
 
-  pub arms_along : (k : WaveVector) {n a : ℕ} (ops : Fin n → Operation) (arm : Fin a → WaveVector) (number : Fin a → Fin n)
+  pub arms_along : (k : WaveVector) {n a : ℕ} (ops : Fin n → Operation) (arm : Fin a → WaveVector) (number : Fin a
+      → Fin n)
       → IsArms G k ops arm number → IsArms H k ops arm number
   arms_along k ops arm number s = record {
     reduced = λ i. reduced_along (arm i) (arm i) (s.reduced i);
@@ -84,7 +90,8 @@ module _ (G H : Operation → Type 0) (same : (g : Operation) → G g ↔ H g) w
     ordered = n.ordered;
   }
 
-  pub table_along : (s : Sign) (k : WaveVector) {h : ℕ} (ops : Fin h → Operation) (T : PhaseTable h) → IsTableOf s G k ops T → IsTableOf s H k ops T
+  pub table_along : (s : Sign) (k : WaveVector) {h : ℕ} (ops : Fin h → Operation) (T : PhaseTable h)
+      → IsTableOf s G k ops T → IsTableOf s H k ops T
   table_along s k ops T t = record {
     is_order = order_along k T.order t.is_order;
     quotient = t.quotient;
@@ -111,19 +118,22 @@ module _ (G H : Operation → Type 0) (same : (g : Operation) → G g ↔ H g) w
     }
 
     pub full_along : (M : ℕ) (v : S.table.order ∣ M) {d : ℕ} (D : Representation (phases_over S.table M v) d)
-        (A : Operation → Matrix (numbers M) (times S.arms d) (times S.arms d)) → IsFullOf S M v D A → IsFullOf star_along M v D A
+        (A : Operation → Matrix (numbers M) (times S.arms d) (times S.arms d)) → IsFullOf S M v D A
+        → IsFullOf star_along M v D A
     full_along M v D A full = record {
       carried = λ g m i j n in_n e x is. full.carried g ((same g).1 m) i j n (little_along H G back k n in_n) e x is;
       apart = λ g m i j none. full.apart g ((same g).1 m) i j (λ n in_n e. none n (little_along G H same k n in_n) e);
     }
 
-  irreducible_along : (M d : ℕ) (A : Operation → Matrix (numbers M) d d) → IsIrreducible (family G A) → IsIrreducible (family H A)
+  irreducible_along : (M d : ℕ) (A : Operation → Matrix (numbers M) d d) → IsIrreducible (family G A)
+      → IsIrreducible (family H A)
   irreducible_along M d A irreducible = record {
     no_invariant = λ r p above below independent invariant. irreducible.no_invariant r p above below independent
         (record { stays = λ i j. invariant.stays (i.0, (same i.0).0 i.1) j });
   }
 
-  generators_along : {n : ℕ} (ops : Fin n → Operation) (gs : List Operation) → AreGeneratorsOf G ops gs → AreGeneratorsOf H ops gs
+  generators_along : {n : ℕ} (ops : Fin n → Operation) (gs : List Operation) → AreGeneratorsOf G ops gs
+      → AreGeneratorsOf H ops gs
   generators_along ops gs are = record {
     centrings = are.centrings;
     are_centrings = centrings_along G H same are.centrings are.are_centrings;
@@ -140,7 +150,8 @@ module _ (G H : Operation → Type 0) (same : (g : Operation) → G g ↔ H g) w
     in_order = t.in_order;
     full = t.full;
     is_full = λ v m. full_along t.star _ v _ (t.full m) (t.is_full v m);
-    irreducible = λ K v positive above m. irreducible_along K _ (raised t.star.table.order K positive v (t.full m)) (t.irreducible K v positive above m);
+    irreducible = λ K v positive above m. irreducible_along K _ (raised t.star.table.order K positive v (t.full m))
+        (t.irreducible K v positive above m);
     generators = t.generators;
     are_generators = generators_along t.star.canonical t.generators t.are_generators;
     content = t.content;

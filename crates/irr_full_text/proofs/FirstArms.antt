@@ -23,8 +23,10 @@ none_before {n} i none = elim (cases_lt 0 (to_nat i)) [
   | inr here ↦ omega (arith, here)
 ]
 
-module _ (G : Operation → Type 0) (group : IsGroup G) (has : HasCanonical G) (k : WaveVector) {n a : ℕ} (ops : Fin n → Operation)
-    (numbering : IsNumbering G (λ _. Unit {0}) ops) (arm : Fin a → WaveVector) (number : Fin a → Fin n) (arms : IsArms G k ops arm number) where
+module _ (G : Operation → Type 0) (group : IsGroup G) (has : HasCanonical G) (k : WaveVector) {n a : ℕ}
+    (ops : Fin n → Operation)
+    (numbering : IsNumbering G (λ _. Unit {0}) ops) (arm : Fin a → WaveVector) (number : Fin a → Fin n)
+    (arms : IsArms G k ops arm number) where
   canonical : (c : Operation) × IsCanonicalOperation G c × (c.rotation ≡ identity.rotation)
   canonical = has identity group.has_identity
 

@@ -9,4 +9,3 @@ pub mod FirstArms
 pub mod Contents
 pub mod CompleteContents
 pub mod Along
-pub mod MadeFulls

@@ -21,7 +21,8 @@ represented full e = record {
   induced = e.induced;
 }
 
-pub printable_at : (group : Group) (ops : List Op) → ArePrintable group ops → (i : ℕ) (x : Op) → i < length ops → x ≡ get_or ops i x → IsPrintable group x
+pub printable_at : (group : Group) (ops : List Op) → ArePrintable group ops → (i : ℕ) (x : Op) → i < length ops → x
+    ≡ get_or ops i x → IsPrintable group x
 printable_at group ops all i x l is = subst (IsPrintable group) (sym is) (all i x l)
 
 pub item_is : {X : Type 0} (xs : List X) (i : ℕ) (x : X) (n : ℕ) → x ≡ get_or xs i x → n ≡ i → get_or xs n x ≡ x

@@ -21,7 +21,8 @@ use Rattle.irr_star.proofs.BlockLaws.{block_here, block_else}
 use Rattle.irr_star.proofs.MemberSizes.{same_member}
 use Rattle.irr_full_text.specs.Reading.{Reading, IsPrintable, IsPieceOf, Piece, BlockRows}
 
-pub is_piece_at : {X : Type 0} {V : Ghosts X} {order : ℕ} {family : Family X V} {bs : List Block} (e : BlockRows order family bs) (p j : Fin e.arms)
+pub is_piece_at : {X : Type 0} {V : Ghosts X} {order : ℕ} {family : Family X V} {bs : List Block}
+    (e : BlockRows order family bs) (p j : Fin e.arms)
     (b : Block) (i k : ℕ) → to_nat p ≡ i → to_nat j ≡ k → IsPieceOf e.number e.small i (get_or bs k b) (e.block p j)
 is_piece_at {bs = bs} e p j b i k ei ek = subst (λ n. IsPieceOf e.number e.small i (get_or bs n b) (e.block p j)) ek
     (subst (λ n. IsPieceOf e.number e.small n (get_or bs (to_nat j) b) (e.block p j)) ei (e.are_pieces p j b))
@@ -31,7 +32,8 @@ abbrev pub no_block : Block
 no_block = record { row = 0; place = 0; exponent = 0 }
 
 -- the block in the column k of the row i
-abbrev pub piece_at : {X : Type 0} {V : Ghosts X} {order : ℕ} {family : Family X V} {bs : List Block} (e : BlockRows order family bs) (p j : Fin e.arms)
+abbrev pub piece_at : {X : Type 0} {V : Ghosts X} {order : ℕ} {family : Family X V} {bs : List Block}
+    (e : BlockRows order family bs) (p j : Fin e.arms)
     (i k : ℕ) → to_nat p ≡ i → to_nat j ≡ k → Piece order family i (get_or bs k no_block)
 piece_at e p j i k ei ek = record {
   number = e.number;
@@ -44,7 +46,8 @@ piece_at e p j i k ei ek = record {
   is_piece = is_piece_at e p j no_block i k ei ek;
 }
 
-module _ {X : Type 0} {V : Ghosts X} (full : Full X V) (e : Reading full) (op : Op) (p : IsPrintable full.group op) (bs : List Block)
+module _ {X : Type 0} {V : Ghosts X} (full : Full X V) (e : Reading full) (op : Op) (p : IsPrintable full.group op)
+    (bs : List Block)
     (are : AreBlocksAt e.star e.number (operation op) bs) where
   is_member : stands_for e.group (operation op)
   is_member = same_member e.group full.group e.induced.same (operation op) p.0
@@ -61,10 +64,13 @@ module _ {X : Type 0} {V : Ghosts X} (full : Full X V) (e : Reading full) (op : 
         place = at.inner;
         number = at.inner-number;
         below = at.is_phase.below;
-        here = λ row. subst (λ x. block e.size (e.matrix (operation op)) x j ≡ scale (numbers e.number) (root_power e.number c.exponent) (e.small.at at.inner))
+        here = λ row. subst (λ x. block e.size (e.matrix (operation op)) x j ≡ scale (numbers e.number)
+            (root_power e.number c.exponent) (e.small.at at.inner))
             (to_nat_inj at.to i (at.row-number ∙ row))
-            (block_here G group chosen e.star e.number e.divides e.small e.matrix e.is_full (operation op) is_member j c at);
-        elsewhere = λ other. block_else G group chosen e.star e.number e.divides e.small e.matrix e.is_full (operation op) is_member j c at i
+            (block_here G group chosen e.star e.number e.divides e.small e.matrix e.is_full (operation op) is_member j
+            c at);
+        elsewhere = λ other. block_else G group chosen e.star e.number e.divides e.small e.matrix e.is_full
+            (operation op) is_member j c at i
             (λ same. other (sym at.row-number ∙ ap to_nat (sym same)));
       }
 

@@ -1,12 +1,14 @@
--- The text of the full representations at a wave vector (a form of this project's own): the arms of its star, the canonical operations of
--- the group, generators of the group, and for each full representation its characters at the operations and its matrices at the generators.
---   FullContent             what stands in one: a wave vector, an order, arms with the operations that carry to them, operations,
---                           generators, and representations of the group
+-- The text of the full representations at a wave vector (a form of this project's own): the arms of its star, the
+-- canonical operations of the group, generators of the group, and for each full representation its characters at the
+-- operations and its matrices at the generators.
+--   FullContent             what stands in one: a wave vector, an order, arms with the operations that carry to them,
+--                           operations, generators, and representations of the group
 --   full_text c             its text
---   AreGeneratorsOf G ops gs    gs are the unit translations, the other translations of G in the unit cell in lexicographic order, and
---                           the operations ops but the first
---   IsFullContent s G k c   the full representations at k of the group G: those that a complete list of small representations in
---                           canonical order induces, each irreducible on G over every order that the order of k divides
+--   AreGeneratorsOf G ops gs    gs are the unit translations, the other translations of G in the unit cell in
+--                           lexicographic order, and the operations ops but the first
+--   IsFullContent s G k c   the full representations at k of the group G: those that a complete list of small
+--                           representations in canonical order induces, each irreducible on G over every order that the
+--                           order of k divides
 use Rattle.std.specs.Prelude.{ℕ, zero, suc, ◌≡◌, ◌<◌, List, [], ◌∷◌, ◌++◌, codes, drop, length, map}
 use Rattle.std.specs.Int.{◌∣◌}
 use Rattle.std.specs.Fmt.{decimal}
@@ -53,7 +55,8 @@ generator_line k g = line (codes "gen" ++ next_word (decimal k) ++ next_word (tr
 
 -- the traces at the operations
 unfoldable pub trace_line : (c : FullContent) → Fin c.count → List ℕ
-trace_line c m = line (codes "char" ++ pieces c.places (λ i. next_word (number_text c.order (trace (c.matrix m (c.operation i))))))
+trace_line c m = line (codes "char"
+    ++ pieces c.places (λ i. next_word (number_text c.order (trace (c.matrix m (c.operation i))))))
 
 -- the matrix at a generator, row by row
 unfoldable pub generator_matrix : (c : FullContent) → Fin c.count → ℕ → Operation → List ℕ
@@ -61,7 +64,8 @@ generator_matrix c m k g = line (codes "mat" ++ next_word (decimal k)
     ++ pieces (c.size m) (λ a. pieces (c.size m) (λ b. next_word (number_text c.order ((c.matrix m g).at a b)))))
 
 unfoldable pub full_lines : (c : FullContent) → Fin c.count → List ℕ
-full_lines c m = line (codes "rep" ++ next_word (83 ∷ place_text m) ++ next_word (codes "dim") ++ next_word (decimal (c.size m)))
+full_lines c m = line (codes "rep" ++ next_word (83 ∷ place_text m) ++ next_word (codes "dim")
+    ++ next_word (decimal (c.size m)))
     ++ trace_line c m ++ numbered (generator_matrix c m) 1 c.generators
 
 unfoldable pub full_text : FullContent → List ℕ
@@ -86,14 +90,17 @@ unfoldable pub listed : {A : Type 0} (n : ℕ) → (Fin n → A) → List A
 listed zero f = []
 listed (suc n) f = f first ∷ listed n (λ i. f (next i))
 
-pub record AreGeneratorsOf (G : Operation → Type 0) {n : ℕ} (ops : Fin n → Operation) (gs : List Operation) : Type 0 where
+pub record AreGeneratorsOf (G : Operation → Type 0) {n : ℕ} (ops : Fin n → Operation)
+    (gs : List Operation) : Type 0 where
   -- the translations of G in the unit cell, of which 0 is the first
   pub centrings : List Vec3
   pub are_centrings : AreCentrings G centrings
   pub are : gs ≡ unit_translations ++ map (λ c. translation (vector c)) (drop 1 centrings) ++ drop 1 (listed n ops)
 
-abbrev pub full_content : {s : Sign} {G : Operation → Type 0} (k : WaveVector) (S : Star s G k) (gs : List Operation) {count : ℕ}
-    (size : Fin count → ℕ) → ((m : Fin count) → Operation → Matrix (numbers S.table.order) (size m) (size m)) → FullContent
+abbrev pub full_content : {s : Sign} {G : Operation → Type 0} (k : WaveVector) (S : Star s G k) (gs : List Operation)
+    {count : ℕ}
+    (size : Fin count → ℕ) → ((m : Fin count) → Operation → Matrix (numbers S.table.order) (size m) (size m))
+    → FullContent
 full_content k S gs {count} size A = record {
   wave = k;
   order = S.table.order;
@@ -116,8 +123,10 @@ pub record IsFullContent (s : Sign) (G : Operation → Type 0) (k : WaveVector) 
   pub complete : IsCompleteList star.table list
   pub in_order : IsInOrder star.table list
   -- the full representations
-  pub full : (m : Fin list.count) → Operation → Matrix (numbers star.table.order) (times star.arms (list.size m)) (times star.arms (list.size m))
-  pub is_full : (v : star.table.order ∣ star.table.order) (m : Fin list.count) → IsFullOf star star.table.order v (over star.table star.table.order v (list.member m)) (full m)
+  pub full : (m : Fin list.count) → Operation → Matrix (numbers star.table.order) (times star.arms (list.size m))
+      (times star.arms (list.size m))
+  pub is_full : (v : star.table.order ∣ star.table.order) (m : Fin list.count) → IsFullOf star star.table.order v
+      (over star.table star.table.order v (list.member m)) (full m)
   pub irreducible : (K : ℕ) (v : star.table.order ∣ K) (positive : 0 < star.table.order) → 0 < K → (m : Fin list.count)
       → IsIrreducible (family G (raised star.table.order K positive v (full m)))
   pub generators : List Operation

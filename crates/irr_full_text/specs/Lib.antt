@@ -2,4 +2,3 @@ pub mod FullText
 pub mod Lines
 pub mod Reading
 pub mod Printed
-pub mod Induced

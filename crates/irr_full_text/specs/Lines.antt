@@ -33,7 +33,8 @@ head_text wave order count = line (codes "full 1") ++ line (codes "wave" ++ next
     ++ line (codes "order" ++ next_word (decimal order)) ++ line (codes "arms" ++ next_word (decimal count))
 
 abbrev pub arm_words : ℕ → WaveVector → Operation → List ℕ
-arm_words n wave g = line (codes "arm" ++ next_word (decimal n) ++ next_word (wave_text wave) ++ next_word (triplet_text g))
+arm_words n wave g = line (codes "arm" ++ next_word (decimal n) ++ next_word (wave_text wave)
+    ++ next_word (triplet_text g))
 
 -- past the end of the list, d stands for an operation
 abbrev pub arm_text : List Op → Op → ℕ → Arm → List ℕ
@@ -41,7 +42,8 @@ arm_text ops d n arm = arm_words n (wave_vector arm.wave) (operation (slice_inde
 
 -- the lines before those of the generators; a stands past the end of the arms
 abbrev pub star_text : List Op → List Arm → ℕ → Op → Arm → List ℕ
-star_text ops arms order d a = head_text (wave_vector (slice_index_or arms 0 a).wave) order (length arms) ++ numbered (arm_text ops d) 1 arms
+star_text ops arms order d a = head_text (wave_vector (slice_index_or arms 0 a).wave) order (length arms)
+    ++ numbered (arm_text ops d) 1 arms
     ++ line (codes "ops" ++ next_word (decimal (length ops))) ++ numbered operation_text 1 ops
 
 abbrev pub generator_text : ℕ → Op → List ℕ
@@ -65,5 +67,6 @@ trace_word M A g = number_word M (trace (A (operation g)))
 
 -- the traces at the operations ops, and the matrices at gens
 abbrev pub representation_text : (M : ℕ) {n : ℕ} → (Operation → Matrix (numbers M) n n) → List Op → List Op → ℕ → List ℕ
-representation_text M {n} A ops gens k = line (codes "rep" ++ next_word (83 ∷ decimal k) ++ next_word (codes "dim") ++ next_word (decimal n))
+representation_text M {n} A ops gens k = line (codes "rep" ++ next_word (83 ∷ decimal k) ++ next_word (codes "dim")
+    ++ next_word (decimal n))
     ++ line (codes "char" ++ flat_map (trace_word M A) ops) ++ numbered (matrix_text M A) 1 gens

@@ -30,23 +30,30 @@ use Rattle.irr_star.specs.declared.full.Full.{Full}
 use Rattle.irr_full_text.specs.FullText.{AreGeneratorsOf, full_text, full_content}
 
 -- the matrices of full representations, over the order of the table
-abbrev pub Matrices : (group : Group) {k : WaveVector} (S : Star (sign_of group.phase) (stands_for group) k) → Representations (phases_at S.table) → Type 0
-Matrices group S L = (m : Fin L.count) → Operation → Matrix (numbers S.table.order) (times S.arms (L.size m)) (times S.arms (L.size m))
+abbrev pub Matrices : (group : Group) {k : WaveVector} (S : Star (sign_of group.phase) (stands_for group) k)
+    → Representations (phases_at S.table) → Type 0
+Matrices group S L = (m : Fin L.count) → Operation → Matrix (numbers S.table.order) (times S.arms (L.size m))
+    (times S.arms (L.size m))
 
-pub record IsPrintedStar (group : Group) (arms : List Arm) (t : Twisted) {k : WaveVector} (S : Star (sign_of group.phase) (stands_for group) k) : Type 0 where
+pub record IsPrintedStar (group : Group) (arms : List Arm) (t : Twisted) {k : WaveVector}
+    (S : Star (sign_of group.phase) (stands_for group) k) : Type 0 where
   pub reduced : IsReduced (stands_for group) k k
   pub star : IsStarOf group arms t S
   pub order : (phase_table t).order ≡ S.table.order
   pub count : length group.ops.items ≡ S.count
   pub canonical : (i : Fin S.count) (d : Op) → operation (slice_index_or group.ops.items (to_nat i) d) ≡ S.canonical i
 
-pub record AreFullsOf {X : Type 0} {V : Ghosts X} (group : Group) {k : WaveVector} (S : Star (sign_of group.phase) (stands_for group) k)
-    (v : S.table.order ∣ S.table.order) (L : Representations (phases_at S.table)) (A : Matrices group S L) (fulls : List (Full X V)) : Type 0 where
+pub record AreFullsOf {X : Type 0} {V : Ghosts X} (group : Group) {k : WaveVector}
+    (S : Star (sign_of group.phase) (stands_for group) k)
+    (v : S.table.order ∣ S.table.order) (L : Representations (phases_at S.table)) (A : Matrices group S L)
+    (fulls : List (Full X V)) : Type 0 where
   pub count : length fulls ≡ L.count
-  pub induced : (m : Fin L.count) (f : Full X V) → IsInduced group S S.table.order v (over S.table S.table.order v (L.member m)) (slice_index_or fulls (to_nat m) f)
+  pub induced : (m : Fin L.count) (f : Full X V) → IsInduced group S S.table.order v
+      (over S.table S.table.order v (L.member m)) (slice_index_or fulls (to_nat m) f)
   pub is_full : (m : Fin L.count) → IsFullOf S S.table.order v (over S.table S.table.order v (L.member m)) (A m)
 
-pub record IsTextAt (group : Group) {k : WaveVector} (S : Star (sign_of group.phase) (stands_for group) k) (L : Representations (phases_at S.table))
+pub record IsTextAt (group : Group) {k : WaveVector} (S : Star (sign_of group.phase) (stands_for group) k)
+    (L : Representations (phases_at S.table))
     (A : Matrices group S L) (text : List ℕ) : Type 0 where
   pub generators : List Operation
   pub are_generators : AreGeneratorsOf (stands_for group) S.canonical generators

@@ -48,7 +48,8 @@ IsPrintable group g = stands_for group (operation g) × HasSmallVector g
 abbrev pub ArePrintable : Group → List Op → Type 0
 ArePrintable group ops = All (IsPrintable group) ops
 
-pub record Readings {X : Type 0} {V : Ghosts X} (order : ℕ) (ops gens : List Op) (fulls : List (Full X V)) : Type 0 where
+pub record Readings {X : Type 0} {V : Ghosts X} (order : ℕ) (ops gens : List Op)
+    (fulls : List (Full X V)) : Type 0 where
   pub count : ℕ
   pub is_count : length fulls ≡ count
   pub reading : (m : Fin count) (f : Full X V) → Reading (slice_index_or fulls (to_nat m) f)
@@ -56,10 +57,12 @@ pub record Readings {X : Type 0} {V : Ghosts X} (order : ℕ) (ops gens : List O
   pub operations : (m : Fin count) (f : Full X V) → ArePrintable (slice_index_or fulls (to_nat m) f).group ops
   pub generators : (m : Fin count) (f : Full X V) → ArePrintable (slice_index_or fulls (to_nat m) f).group gens
   pub text : Fin count → List ℕ
-  pub is_text : (m : Fin count) (f : Full X V) → text m ≡ representation_text (reading m f).number (reading m f).matrix ops gens (suc (to_nat m))
+  pub is_text : (m : Fin count) (f : Full X V) → text m
+      ≡ representation_text (reading m f).number (reading m f).matrix ops gens (suc (to_nat m))
 
 -- z^x D(p) in the row that b names, and 0 in the others
-pub record IsPieceOf (M : ℕ) {h d : ℕ} (D : Fin h → Matrix (numbers M) d d) (i : ℕ) (b : Block) (B : Matrix (numbers M) d d) : Type 0 where
+pub record IsPieceOf (M : ℕ) {h d : ℕ} (D : Fin h → Matrix (numbers M) d d) (i : ℕ) (b : Block)
+    (B : Matrix (numbers M) d d) : Type 0 where
   pub place : Fin h
   pub number : to_nat place ≡ b.place
   pub below : b.exponent < M
@@ -86,4 +89,5 @@ pub record BlockRows {X : Type 0} {V : Ghosts X} (order : ℕ) (family : Family 
   pub arms : ℕ
   pub count : length bs ≡ arms
   pub block : Fin arms → Fin arms → Matrix (numbers number) size size
-  pub are_pieces : (i j : Fin arms) (b : Block) → IsPieceOf number small (to_nat i) (slice_index_or bs (to_nat j) b) (block i j)
+  pub are_pieces : (i j : Fin arms) (b : Block) → IsPieceOf number small (to_nat i) (slice_index_or bs (to_nat j) b)
+      (block i j)

@@ -12,8 +12,8 @@ use irr_rep::Family;
 use irr_star::Block;
 use std::alloc::Global;
 
-/// Appends the entries of a matrix, row by row, of which blocks and a family tell: in each column of blocks there is one
-/// that is not 0, a power of z times a matrix of the family. The error is want of memory.
+/// Appends the entries of a matrix, row by row, of which blocks and a family tell: in each column of blocks there is
+/// one that is not 0, a power of z times a matrix of the family. The error is want of memory.
 pub(crate) fn push_blocks<S: Scalar>(
     alloc: Global,
     text: &mut Vec<u8>,
@@ -64,7 +64,8 @@ fn push_row<S: Scalar>(
     requires blocks { BlockRows order.now.n family.now blocks.now }
     requires arm { i < length blocks.now }
     requires row { r < family.now.dim }
-    ensures { (e : BlockRows order.now.n family.now blocks.now) (p : Fin e.arms) (q : Fin e.size) → to_nat p ≡ i → to_nat q ≡ r
+    ensures { (e : BlockRows order.now.n family.now blocks.now) (p : Fin e.arms) (q : Fin e.size) → to_nat p ≡ i
+        → to_nat q ≡ r
         → OnOk result (text.new.items ≡ text.old.items ++ row_text e.number (e.block p) q) }
 {
     for block in blocks {

@@ -18,8 +18,8 @@ use irr_rat::Vec3;
 use irr_seitz::Op;
 use std::alloc::Global;
 
-/// Generators of a group: the unit translations, the other translations in the unit cell in lexicographic order, and the
-/// canonical operations but the first. The error is want of memory.
+/// Generators of a group: the unit translations, the other translations in the unit cell in lexicographic order, and
+/// the canonical operations but the first. The error is want of memory.
 pub fn generators(alloc: Global, group: &Group) -> Result<Vec<Op>, Memory>
     ensures generators { IfOk result (λ gens. (n : ℕ) (ops : Fin n → Operation) → length group.now.ops.items ≡ n
         → ((i : Fin n) (d : Op) → operation (slice_index_or group.now.ops.items (to_nat i) d) ≡ ops i)
@@ -76,7 +76,8 @@ fn translation(by: &Vec3) -> Op
 // Appends the translations by vectors of the unit cell.
 fn push_translations(ops: &mut Vec<Op>, by: &[Vec3]) -> Result<(), Memory>
     requires { All (λ c. IsInCell (vector c)) by.now }
-    ensures are { OnOk result (map operation ops.new.items ≡ map operation ops.old.items ++ map (λ c. translation (vector c)) by.now) }
+    ensures are { OnOk result (map operation ops.new.items ≡ map operation ops.old.items
+        ++ map (λ c. translation (vector c)) by.now) }
     ensures small { All HasSmallVector ops.old.items → OnOk result (All HasSmallVector ops.new.items) }
 {
     for vector in by {

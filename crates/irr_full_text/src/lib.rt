@@ -3,7 +3,6 @@
 
 mod blocks;
 mod generating;
-mod inducing;
 mod laws;
 mod lines;
 mod numbers;
@@ -11,7 +10,6 @@ mod representations;
 mod text;
 
 pub use generating::generators;
-pub use inducing::full_reps;
 pub use irr_memory::Memory;
 pub use laws::{
     contents_of_complete_lists, contents_of_generated_groups, full_representations_of_lists,

@@ -1,4 +1,5 @@
-// The lines of arms and of generators. (`push_arms` is that of the text of a star in irr_top, which may take it from here.)
+// The lines of arms and of generators. (`push_arms` is that of the text of a star in irr_top, which may take it from
+// here.)
 ghost use Rattle.std.specs.Prelude.{◌≡◌, ◌++◌, IfOk, OnOk};
 ghost use Rattle.irr_seitz.specs.OperationMeaning.{operation};
 ghost use Rattle.irr_seitz.specs.declared.op.Op.{Op};
@@ -45,7 +46,8 @@ fn push_arm(
     wave: &Wave,
     op: &Op,
 ) -> Result<(), Memory>
-    ensures { OnOk result (text.new.items ≡ text.old.items ++ arm_words number (wave_vector wave.now) (operation op.now)) }
+    ensures { OnOk result (text.new.items ≡ text.old.items ++ arm_words number (wave_vector wave.now)
+        (operation op.now)) }
 {
     text.extend_from_slice(format!(in alloc; "arm {number} {wave} ")?.as_bytes())?;
     let triplet = print_triplet(alloc, op)?;

@@ -12,7 +12,8 @@ use std::alloc::Global;
 
 /// Appends a blank and a number. The error is want of memory.
 pub(crate) fn push_value<S: Scalar>(alloc: Global, text: &mut Vec<u8>, x: &S) -> Result<(), Memory>
-    ensures { (M : ℕ) → S.order_of x.now ≡ M → OnOk result (text.new.items ≡ text.old.items ++ number_word M (S.value M x.now)) }
+    ensures { (M : ℕ) → S.order_of x.now ≡ M → OnOk result (text.new.items ≡ text.old.items
+        ++ number_word M (S.value M x.now)) }
 {
     if x.is_zero() {
         text.extend_from_slice(b" 0")?;
@@ -36,7 +37,8 @@ pub(crate) fn push_turned<S: Scalar>(
     requires below { e < order.now.n }
     requires denominator { let n = order.now.n in denominator n (S.value n x.now) ≤ 2 ^ 60 }
     requires size { let n = order.now.n in size n (S.value n x.now) ≤ 2 ^ 80 }
-    ensures { let n = order.now.n in OnOk result (text.new.items ≡ text.old.items ++ number_word n ((numbers n).mul (root_power n e) (S.value n x.now))) }
+    ensures { let n = order.now.n in OnOk result (text.new.items ≡ text.old.items
+        ++ number_word n ((numbers n).mul (root_power n e) (S.value n x.now))) }
 {
     if e == 0 {
         push_value(alloc, text, x)?;
@@ -54,7 +56,8 @@ pub(crate) fn push_turned<S: Scalar>(
 
 /// Appends a number 0, `count` times. The error is want of memory.
 pub(crate) fn push_zeros(text: &mut Vec<u8>, count: u32) -> Result<(), Memory>
-    ensures { (M d : ℕ) → 0 < M → count ≡ d → OnOk result (text.new.items ≡ text.old.items ++ pieces d (λ c. number_word M (numbers M).zero)) }
+    ensures { (M d : ℕ) → 0 < M → count ≡ d → OnOk result (text.new.items ≡ text.old.items
+        ++ pieces d (λ c. number_word M (numbers M).zero)) }
 {
     for _ in 0..count {
         text.extend_from_slice(b" 0")?;

@@ -24,7 +24,8 @@ pub(crate) fn push_fulls<S: Scalar>(
     gens: &[Op],
 ) -> Result<(), Memory>
     requires { Readings order.now.n ops.now gens.now fulls.now }
-    ensures { (e : Readings order.now.n ops.now gens.now fulls.now) → OnOk result (text.new.items ≡ text.old.items ++ pieces e.count e.text) }
+    ensures { (e : Readings order.now.n ops.now gens.now fulls.now) → OnOk result (text.new.items ≡ text.old.items
+        ++ pieces e.count e.text) }
 {
     for (i, full) in fulls.iter().enumerate() {
         push_full(alloc, text, order, i + 1, full, ops, gens)?;
@@ -89,7 +90,8 @@ fn push_matrices<S: Scalar>(
     requires reading { Reading full.now }
     requires order { order.now.n ≡ full.now.order.n }
     requires generators { ArePrintable full.now.group gens.now }
-    ensures { (e : Reading full.now) → OnOk result (text.new.items ≡ text.old.items ++ numbered (matrix_text e.number e.matrix) 1 gens.now) }
+    ensures { (e : Reading full.now) → OnOk result (text.new.items ≡ text.old.items
+        ++ numbered (matrix_text e.number e.matrix) 1 gens.now) }
 {
     for (i, op) in gens.iter().enumerate() {
         push_matrix(alloc, text, order, i + 1, full, op)?;
@@ -109,7 +111,8 @@ fn push_matrix<S: Scalar>(
     requires reading { Reading full.now }
     requires order { order.now.n ≡ full.now.order.n }
     requires operation { IsPrintable full.now.group op.now }
-    ensures { (e : Reading full.now) → OnOk result (text.new.items ≡ text.old.items ++ matrix_text e.number e.matrix number op.now) }
+    ensures { (e : Reading full.now) → OnOk result (text.new.items ≡ text.old.items ++ matrix_text e.number e.matrix
+        number op.now) }
 {
     let blocks = full.blocks(alloc, op)?;
     text.extend_from_slice(format!(in alloc; "mat {number}")?.as_bytes())?;

@@ -24,10 +24,10 @@ use irr_report::push_operations;
 use irr_star::Full;
 use std::alloc::Global;
 
-/// The text of the full representations that the members of a list of small representations induce, over the order of the
-/// table t of the little group of a reduced wave vector of the group, with its star: the wave vector, the order, the arms,
-/// the canonical operations of the group, generators, and for each representation its dimension, its traces at the
-/// operations and its matrices at the generators. All count from 1. The error is want of memory.
+/// The text of the full representations that the members of a list of small representations induce, over the order
+/// of the table t of the little group of a reduced wave vector of the group, with its star: the wave vector, the order,
+/// the arms, the canonical operations of the group, generators, and for each representation its dimension, its traces
+/// at the operations and its matrices at the generators. All count from 1. The error is want of memory.
 pub fn text_full<S: Scalar>(
     alloc: Global,
     group: &Group,
@@ -35,10 +35,12 @@ pub fn text_full<S: Scalar>(
     t: &Twisted,
     fulls: &[Full<S>],
 ) -> Result<Vec<u8>, Memory>
-    requires { (k : WaveVector) × (U : Star (sign_of group.now.phase) (stands_for group.now) k) × (v : U.table.order ∣ U.table.order)
+    requires { (k : WaveVector) × (U : Star (sign_of group.now.phase) (stands_for group.now) k)
+        × (v : U.table.order ∣ U.table.order)
         × (L : Representations (phases_at U.table)) × (A : Matrices group.now U L)
         × IsPrintedStar group.now star.now.arms.items t.now U × AreFullsOf group.now U v L A fulls.now }
-    ensures { (k : WaveVector) (U : Star (sign_of group.now.phase) (stands_for group.now) k) (v : U.table.order ∣ U.table.order)
+    ensures { (k : WaveVector) (U : Star (sign_of group.now.phase) (stands_for group.now) k)
+        (v : U.table.order ∣ U.table.order)
         (L : Representations (phases_at U.table)) (A : Matrices group.now U L)
         → IsPrintedStar group.now star.now.arms.items t.now U → AreFullsOf group.now U v L A fulls.now
         → IfOk result (λ text. IsTextAt group.now U L A text.items) }

@@ -8,7 +8,8 @@ use Rattle.irr_full_text.proofs.FirstPieces.{pieces_none, pieces_step, pieces_al
 use Rattle.irr_full_text.proofs.blocks.push_blocks.Goals as goal
 
 pub loop-i-init : goal.loop-i-init
-loop-i-init g c = λ e. pieces_none c.args.text.now.items (λ (p : Fin e.arms). pieces e.size (row_text e.number (e.block p)))
+loop-i-init g c = λ e. pieces_none c.args.text.now.items
+    (λ (p : Fin e.arms). pieces e.size (row_text e.number (e.block p)))
 
 pub loop-i-preserved : goal.loop-i-preserved
 loop-i-preserved g c = λ e.
@@ -16,9 +17,11 @@ loop-i-preserved g c = λ e.
     let at = from_nat e.arms c.loop-i.i inside in
     let is = to_nat-from_nat e.arms c.loop-i.i inside in
     c.in_ok-push_rows.ensures e at is
-    ∙ pieces_step c.args.text.now.items (λ (p : Fin e.arms). pieces e.size (row_text e.number (e.block p))) c.loop-i.text.items c.loop-i.i at is
+    ∙ pieces_step c.args.text.now.items (λ (p : Fin e.arms). pieces e.size (row_text e.number (e.block p)))
+    c.loop-i.text.items c.loop-i.i at is
     (c.loop-i.invariant e)
 
 pub returns : goal.returns
-returns g c = λ e. pieces_all c.args.text.now.items (λ (p : Fin e.arms). pieces e.size (row_text e.number (e.block p))) c.loop-i.text.items c.loop-i.i
+returns g c = λ e. pieces_all c.args.text.now.items (λ (p : Fin e.arms). pieces e.size (row_text e.number (e.block p)))
+    c.loop-i.text.items c.loop-i.i
     (subst (λ n. n ≤ c.loop-i.i) e.count c.loop-i-test.false) (c.loop-i.invariant e)

@@ -9,4 +9,5 @@ use Rattle.irr_full_text.proofs.blocks.push_blocks.Given as goal
 
 abbrev pub invariant-loop-i : goal.invariant-loop-i
 invariant-loop-i g l = (e : BlockRows l.order.n l.family l.blocks)
-    → l.text.items ≡ l.fn.text.items ++ first_pieces l.i (λ (p : Fin e.arms). pieces e.size (row_text e.number (e.block p)))
+    → l.text.items ≡ l.fn.text.items
+    ++ first_pieces l.i (λ (p : Fin e.arms). pieces e.size (row_text e.number (e.block p)))

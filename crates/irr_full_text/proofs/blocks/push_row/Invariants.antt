@@ -8,6 +8,7 @@ use Rattle.irr_full_text.proofs.FirstPieces.{first_pieces}
 use Rattle.irr_full_text.proofs.blocks.push_row.Given as goal
 
 abbrev pub invariant-loop-block : goal.invariant-loop-block
-invariant-loop-block g l = (e : BlockRows l.order.n l.family l.blocks) (p : Fin e.arms) (q : Fin e.size) → to_nat p ≡ l.i → to_nat q ≡ l.r
+invariant-loop-block g l = (e : BlockRows l.order.n l.family l.blocks) (p : Fin e.arms) (q : Fin e.size) → to_nat p
+    ≡ l.i → to_nat q ≡ l.r
     → l.text.items ≡ l.fn.text.items
     ++ first_pieces l.block-index (λ (j : Fin e.arms). pieces e.size (λ c. number_word e.number ((e.block p j).at q c)))

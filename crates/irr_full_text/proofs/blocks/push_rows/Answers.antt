@@ -14,7 +14,8 @@ loop-r-preserved g c = λ e p ep.
     let at = from_nat e.size c.loop-r.r inside in
     let is = to_nat-from_nat e.size c.loop-r.r inside in
     c.in_ok-push_row.ensures e p at ep is
-    ∙ pieces_step c.args.text.now.items (row_text e.number (e.block p)) c.loop-r.text.items c.loop-r.r at is (c.loop-r.invariant e p ep)
+    ∙ pieces_step c.args.text.now.items (row_text e.number (e.block p)) c.loop-r.text.items c.loop-r.r at is
+    (c.loop-r.invariant e p ep)
 
 pub returns : goal.returns
 returns g c = λ e p ep. pieces_all c.args.text.now.items (row_text e.number (e.block p)) c.loop-r.text.items c.loop-r.r

@@ -24,7 +24,8 @@ returns-clause-generators c = λ n ops e same.
     (sym (c.in_ok-extend_from_slice.ensures.items ∙ ap (λ (xs : List Op). c.push_translations.new.ops.items ++ xs)
     (c.split_at-2.ensures.back ∙ ap (drop 1) c.ops.ensures.list)))
     (generators_are group c.in_ok-gens.gens.items c.push_translations.new.ops.items c.in_ok-gens.ensures.are
-    (c.in_ok-push_translations.ensures.are ∙ ap (λ (vs : List Vec3). map operation c.in_ok-gens.gens.items ++ map (λ (v : Vec3). translation (vector v)) vs)
+    (c.in_ok-push_translations.ensures.are ∙ ap (λ (vs : List Vec3). map operation c.in_ok-gens.gens.items
+    ++ map (λ (v : Vec3). translation (vector v)) vs)
     (c.split_at.ensures.back ∙ ap (drop 1) c.centrings.ensures.list)) n ops e same)
 
 pub returns-clause-printable : goal.returns-clause-printable
@@ -34,5 +35,7 @@ returns-clause-printable c =
     (sym (c.in_ok-extend_from_slice.ensures.items ∙ ap (λ (xs : List Op). c.push_translations.new.ops.items ++ xs)
     (c.split_at-2.ensures.back ∙ ap (drop 1) c.ops.ensures.list)))
     (generators_printable group c.in_ok-gens.gens.items c.push_translations.new.ops.items c.in_ok-gens.ensures.are
-    (c.in_ok-push_translations.ensures.are ∙ ap (λ (vs : List Vec3). map operation c.in_ok-gens.gens.items ++ map (λ (v : Vec3). translation (vector v)) vs)
-    (c.split_at.ensures.back ∙ ap (drop 1) c.centrings.ensures.list)) (c.in_ok-push_translations.ensures.small c.in_ok-gens.ensures.small))
+    (c.in_ok-push_translations.ensures.are ∙ ap (λ (vs : List Vec3). map operation c.in_ok-gens.gens.items
+    ++ map (λ (v : Vec3). translation (vector v)) vs)
+    (c.split_at.ensures.back ∙ ap (drop 1) c.centrings.ensures.list)) (c.in_ok-push_translations.ensures.small
+    c.in_ok-gens.ensures.small))

@@ -21,10 +21,13 @@ loop-vector-preserved c =
     let g = c.translation.result in
     let items = c.loop-vector.ops.items in (
       ap (map operation) c.in_ok-push.ensures.items
-          ∙ mapped_step operation (λ (v : Vec3). translation (vector v)) c.args.ops.now.items items g c.args.by.now c.loop-vector.vector-index x
+          ∙ mapped_step operation (λ (v : Vec3). translation (vector v)) c.args.ops.now.items items g c.args.by.now
+          c.loop-vector.vector-index x
           c.loop-vector-test.true c.vector-item.is c.loop-vector.invariant.0 c.translation.ensures.is,
-      λ all. subst (All HasSmallVector) (sym c.in_ok-push.ensures.items) (All-push HasSmallVector items g (c.loop-vector.invariant.1 all)
-          (small_moved g x c.translation.ensures.num c.translation.ensures.den (subst (λ (v : Vec3). IsInCell (vector v)) (sym c.vector-item.is)
+      λ all. subst (All HasSmallVector) (sym c.in_ok-push.ensures.items)
+          (All-push HasSmallVector items g (c.loop-vector.invariant.1 all)
+          (small_moved g x c.translation.ensures.num c.translation.ensures.den
+          (subst (λ (v : Vec3). IsInCell (vector v)) (sym c.vector-item.is)
           (c.requires c.loop-vector.vector-index x c.loop-vector-test.true)))),
     )
 

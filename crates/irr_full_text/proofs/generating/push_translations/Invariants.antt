@@ -8,5 +8,6 @@ use Rattle.irr_star.specs.Sizes.{HasSmallVector}
 use Rattle.irr_full_text.proofs.generating.push_translations.Given as goal
 
 abbrev pub invariant-loop-vector : goal.invariant-loop-vector
-invariant-loop-vector l = (map operation l.ops.items ≡ map operation l.fn.ops.items ++ map (λ c. translation (vector c)) (take l.vector-index l.by))
+invariant-loop-vector l = (map operation l.ops.items ≡ map operation l.fn.ops.items
+    ++ map (λ c. translation (vector c)) (take l.vector-index l.by))
     × (All HasSmallVector l.fn.ops.items → All HasSmallVector l.ops.items)

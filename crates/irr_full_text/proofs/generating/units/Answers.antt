@@ -11,5 +11,6 @@ returns-clause-are c =
     let v = c.unit_translation-2.result in
     let w = c.unit_translation-3.result in
     ap (map operation) (c.in_ok-push-3.ensures.items ∙ ap (λ (xs : List Op). xs ++ w ∷ []) (c.in_ok-push-2.ensures.items
-    ∙ ap (λ (xs : List Op). xs ++ v ∷ []) (c.in_ok-push.ensures.items ∙ ap (λ (xs : List Op). xs ++ u ∷ []) c.new-units.ensures.items)))
+    ∙ ap (λ (xs : List Op). xs ++ v ∷ []) (c.in_ok-push.ensures.items ∙ ap (λ (xs : List Op). xs ++ u ∷ [])
+    c.new-units.ensures.items)))
     ∙ units_are u v w c.unit_translation.ensures.is c.unit_translation-2.ensures.is c.unit_translation-3.ensures.is

@@ -12,5 +12,6 @@ returns-then-is_zero g c = λ M same.
     let n = g.S.Scalar.order_of x in
     let none = c.is_zero.ensures.zero.0 (let t : IsTrue c.is_zero.result = search rules in t) in
     c.in_ok-extend_from_slice.ensures.items
-    ∙ ap (λ word. c.args.text.now.items ++ word) (sym (subst (λ m. number_word m (g.S.Scalar.value m x) ≡ codes " 0") same
+    ∙ ap (λ word. c.args.text.now.items ++ word)
+    (sym (subst (λ m. number_word m (g.S.Scalar.value m x) ≡ codes " 0") same
     (ap (number_word n) none ∙ zero-word n (laws.admitted_positive n (laws.order_admitted x)))))

@@ -19,5 +19,6 @@ loop-preserved c = λ M d h e.
     (from_nat d c.loop.counter inside) (to_nat-from_nat d c.loop.counter inside) (c.loop.invariant M d h e)
 
 pub returns : goal.returns
-returns c = λ M d h e. pieces_all c.args.text.now.items (λ (c : Fin d). number_word M (numbers M).zero) c.loop.text.items c.loop.counter
+returns c = λ M d h e. pieces_all c.args.text.now.items (λ (c : Fin d). number_word M (numbers M).zero)
+    c.loop.text.items c.loop.counter
     (subst (λ n. n ≤ c.loop.counter) e c.loop-test.false) (c.loop.invariant M d h e)

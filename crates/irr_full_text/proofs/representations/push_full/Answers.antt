@@ -19,7 +19,8 @@ returns g c = λ e.
     let head = line (codes "rep" ++ next_word (83 ∷ k) ++ next_word (codes "dim") ++ next_word n) in
     let traces = line (codes "char" ++ flat_map (trace_word e.number e.matrix) c.args.ops.now) in
     let matrices = numbered (matrix_text e.number e.matrix) 1 c.args.gens.now in
-    let dim : c.dim-dim.result ≡ times e.star.arms e.size = c.dim-dim.ensures.dim e.group e.wave e.star e.number e.divides e.size e.small e.induced
+    let dim : c.dim-dim.result ≡ times e.star.arms e.size = c.dim-dim.ensures.dim e.group e.wave e.star e.number
+    e.divides e.size e.small e.induced
     ∙ sym (times-mul e.star.arms e.size) in
     c.in_ok-push_matrices.ensures e ∙ ap (λ (t : List ℕ). t ++ matrices) (c.in_ok-push_traces.ensures e
     ∙ ap (λ (t : List ℕ). t ++ traces) (c.in_ok-extend_from_slice.ensures.items

@@ -18,7 +18,8 @@ push_full-requires-clause-reading g c =
     let x = c.index-fulls-i.result in
     let inside : c.loop-i.i < e.count = subst (λ n. c.loop-i.i < n) e.is_count c.loop-i-test.true in
     let m = from_nat e.count c.loop-i.i inside in
-    subst (λ (f : Full _ _). Reading f) (item_is c.args.fulls.now c.loop-i.i x (to_nat m) c.index-fulls-i.is (to_nat-from_nat e.count c.loop-i.i inside)) (e.reading m x)
+    subst (λ (f : Full _ _). Reading f) (item_is c.args.fulls.now c.loop-i.i x (to_nat m) c.index-fulls-i.is
+    (to_nat-from_nat e.count c.loop-i.i inside)) (e.reading m x)
 
 pub push_full-requires-clause-order : goal.push_full-requires-clause-order
 push_full-requires-clause-order g c =
@@ -26,7 +27,8 @@ push_full-requires-clause-order g c =
     let x = c.index-fulls-i.result in
     let inside : c.loop-i.i < e.count = subst (λ n. c.loop-i.i < n) e.is_count c.loop-i-test.true in
     let m = from_nat e.count c.loop-i.i inside in
-    subst (λ (f : Full _ _). c.args.order.now.n ≡ f.order.n) (item_is c.args.fulls.now c.loop-i.i x (to_nat m) c.index-fulls-i.is (to_nat-from_nat e.count c.loop-i.i inside)) (e.is_order m x)
+    subst (λ (f : Full _ _). c.args.order.now.n ≡ f.order.n) (item_is c.args.fulls.now c.loop-i.i x (to_nat m)
+    c.index-fulls-i.is (to_nat-from_nat e.count c.loop-i.i inside)) (e.is_order m x)
 
 pub push_full-requires-clause-operations : goal.push_full-requires-clause-operations
 push_full-requires-clause-operations g c =
@@ -34,7 +36,8 @@ push_full-requires-clause-operations g c =
     let x = c.index-fulls-i.result in
     let inside : c.loop-i.i < e.count = subst (λ n. c.loop-i.i < n) e.is_count c.loop-i-test.true in
     let m = from_nat e.count c.loop-i.i inside in
-    subst (λ (f : Full _ _). ArePrintable f.group c.args.ops.now) (item_is c.args.fulls.now c.loop-i.i x (to_nat m) c.index-fulls-i.is (to_nat-from_nat e.count c.loop-i.i inside)) (e.operations m x)
+    subst (λ (f : Full _ _). ArePrintable f.group c.args.ops.now) (item_is c.args.fulls.now c.loop-i.i x (to_nat m)
+    c.index-fulls-i.is (to_nat-from_nat e.count c.loop-i.i inside)) (e.operations m x)
 
 pub push_full-requires-clause-generators : goal.push_full-requires-clause-generators
 push_full-requires-clause-generators g c =
@@ -42,7 +45,8 @@ push_full-requires-clause-generators g c =
     let x = c.index-fulls-i.result in
     let inside : c.loop-i.i < e.count = subst (λ n. c.loop-i.i < n) e.is_count c.loop-i-test.true in
     let m = from_nat e.count c.loop-i.i inside in
-    subst (λ (f : Full _ _). ArePrintable f.group c.args.gens.now) (item_is c.args.fulls.now c.loop-i.i x (to_nat m) c.index-fulls-i.is (to_nat-from_nat e.count c.loop-i.i inside)) (e.generators m x)
+    subst (λ (f : Full _ _). ArePrintable f.group c.args.gens.now) (item_is c.args.fulls.now c.loop-i.i x (to_nat m)
+    c.index-fulls-i.is (to_nat-from_nat e.count c.loop-i.i inside)) (e.generators m x)
 
 plus_one : (k n : ℕ) → n ≡ k → k + 1 ≡ suc n
 plus_one k n e = omega (arith, e)
@@ -57,10 +61,12 @@ loop-i-preserved g c = λ e.
     ++ representation_text r.number r.matrix c.args.ops.now c.args.gens.now (c.loop-i.i + 1))
     (sym (item_is c.args.fulls.now c.loop-i.i x (to_nat m) c.index-fulls-i.is is)) c.in_ok-push_full.ensures in
     told (e.reading m x)
-    ∙ ap (λ n. c.loop-i.text.items ++ representation_text (e.reading m x).number (e.reading m x).matrix c.args.ops.now c.args.gens.now n) (plus_one c.loop-i.i (to_nat m) is)
+    ∙ ap (λ n. c.loop-i.text.items ++ representation_text (e.reading m x).number (e.reading m x).matrix c.args.ops.now
+    c.args.gens.now n) (plus_one c.loop-i.i (to_nat m) is)
     ∙ ap (λ (w : List ℕ). c.loop-i.text.items ++ w) (sym (e.is_text m x))
     ∙ pieces_step c.args.text.now.items e.text c.loop-i.text.items c.loop-i.i m is (c.loop-i.invariant e)
 
 pub returns : goal.returns
-returns g c = λ e. pieces_all c.args.text.now.items e.text c.loop-i.text.items c.loop-i.i (subst (λ n. n ≤ c.loop-i.i) e.is_count c.loop-i-test.false)
+returns g c = λ e. pieces_all c.args.text.now.items e.text c.loop-i.text.items c.loop-i.i
+    (subst (λ n. n ≤ c.loop-i.i) e.is_count c.loop-i-test.false)
     (c.loop-i.invariant e)

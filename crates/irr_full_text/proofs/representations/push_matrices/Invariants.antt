@@ -6,4 +6,5 @@ use Rattle.irr_full_text.specs.Reading.{Reading}
 use Rattle.irr_full_text.proofs.representations.push_matrices.Given as goal
 
 abbrev pub invariant-loop-i : goal.invariant-loop-i
-invariant-loop-i g l = (e : Reading l.full) → l.text.items ≡ l.fn.text.items ++ numbered (matrix_text e.number e.matrix) 1 (take l.i l.gens)
+invariant-loop-i g l = (e : Reading l.full) → l.text.items ≡ l.fn.text.items
+    ++ numbered (matrix_text e.number e.matrix) 1 (take l.i l.gens)

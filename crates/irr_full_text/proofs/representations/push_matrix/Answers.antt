@@ -39,10 +39,13 @@ returns g c = λ e.
     let bs = c.in_ok-blocks.blocks.items in
     let entries = entries_text e.number (e.matrix (operation c.args.op.now)) in
     let are = c.in_ok-blocks.ensures.blocks e.group e.wave e.star e.number e.divides e.size e.small e.induced in
-    let told = subst (λ (xs : List Block). (r : BlockRows c.args.order.now.n full.family xs) → c.push_blocks.new.text.items ≡ begun
+    let told = subst (λ (xs : List Block). (r : BlockRows c.args.order.now.n full.family xs)
+    → c.push_blocks.new.text.items ≡ begun
     ++ pieces r.arms (λ i. pieces r.size (row_text r.number (r.block i)))) c.deref.ensures.value
-    (subst (λ (f : Family _ _). (r : BlockRows c.args.order.now.n f c.deref.result.now) → c.push_blocks.new.text.items ≡ begun
-    ++ pieces r.arms (λ i. pieces r.size (row_text r.number (r.block i)))) c.family.ensures c.in_ok-push_blocks.ensures) in
+    (subst (λ (f : Family _ _). (r : BlockRows c.args.order.now.n f c.deref.result.now) → c.push_blocks.new.text.items
+    ≡ begun
+    ++ pieces r.arms (λ i. pieces r.size (row_text r.number (r.block i)))) c.family.ensures
+    c.in_ok-push_blocks.ensures) in
     c.in_ok-push.ensures.items ∙ ap (λ (t : List ℕ). t ++ 10 ∷ [])
     (told (blocks_of full e c.args.op.now c.requires.operation bs are c.args.order.now.n c.requires.order)
     ∙ ap (λ (w : List ℕ). begun ++ w) (entries-blocks e.number e.star.arms e.size (e.matrix (operation c.args.op.now)))

@@ -30,7 +30,8 @@ push_fulls-requires g c =
     let gens = c.in_ok-gens.gens.items in
     subst (λ (xs : List Op). Readings n c.ops.result.now xs c.args.fulls.now) (sym c.deref-3.ensures.value)
     (subst (λ (xs : List Op). Readings n xs gens c.args.fulls.now) (sym c.ops.ensures.list)
-    (readings_of group c.args.star.now.arms.items c.args.t.now c.requires.1 c.requires.5 c.requires.2 c.requires.3 c.requires.4 c.args.fulls.now c.requires.6
+    (readings_of group c.args.star.now.arms.items c.args.t.now c.requires.1 c.requires.5 c.requires.2 c.requires.3
+    c.requires.4 c.args.fulls.now c.requires.6
     n (c.in_ok-order.ensures ∙ c.order.ensures.order) gens (operations_printable group) c.in_ok-gens.ensures.printable))
 
 pub returns : goal.returns
@@ -47,20 +48,28 @@ returns g c = λ k U v L A is are.
     let counted = c.extend_from_slice-2.new.self.items in
     let filled = c.push_fulls.new.text.items in
     let count : c.len-count.result ≡ length gens = (let l = c.len-count.ensures in search rules) in
-    let told = subst (λ (xs : List Op). (e : Readings n group.ops.items xs c.args.fulls.now) → filled ≡ counted ++ pieces e.count e.text) c.deref-3.ensures.value
-    (subst (λ (xs : List Op). (e : Readings n xs c.deref-3.result.now c.args.fulls.now) → filled ≡ counted ++ pieces e.count e.text) c.ops.ensures.list
+    let told = subst (λ (xs : List Op). (e : Readings n group.ops.items xs c.args.fulls.now) → filled ≡ counted
+    ++ pieces e.count e.text) c.deref-3.ensures.value
+    (subst (λ (xs : List Op). (e : Readings n xs c.deref-3.result.now c.args.fulls.now) → filled ≡ counted
+    ++ pieces e.count e.text) c.ops.ensures.list
     c.in_ok-push_fulls.ensures) in
     record {
       generators = map operation gens;
       are_generators = c.in_ok-gens.ensures.generators U.count U.canonical is.count is.canonical;
-      is_text = text_is group arms c.args.t.now U is gens L A d a c.order-2.result (length c.args.fulls.now) star begun listed counted filled
+      is_text = text_is group arms c.args.t.now U is gens L A d a c.order-2.result (length c.args.fulls.now) star begun
+          listed counted filled
           c.extend_from_slice-3.new.self.items (c.order-2.ensures.order ∙ is.order) are.count
-          (c.in_ok-text.ensures d a ∙ ap (λ (xs : List Arm). star_text group.ops.items xs c.order-2.result d a) c.deref.ensures.value)
-          (c.in_ok-extend_from_slice.ensures.items ∙ ap (λ (t : List ℕ). star ++ t) (c.as_bytes.ensures.value ∙ c.in_ok-format.ensures.ok
+          (c.in_ok-text.ensures d a ∙ ap (λ (xs : List Arm). star_text group.ops.items xs c.order-2.result d a)
+          c.deref.ensures.value)
+          (c.in_ok-extend_from_slice.ensures.items ∙ ap (λ (t : List ℕ). star ++ t) (c.as_bytes.ensures.value
+          ∙ c.in_ok-format.ensures.ok
           ∙ ap (λ (m : ℕ). codes "gens " ++ (decimal m ++ codes "\n")) count))
-          (c.in_ok-push_generators.ensures ∙ ap (λ (xs : List Op). begun ++ numbered generator_text 1 xs) c.deref-2.ensures.value)
-          (c.in_ok-extend_from_slice-2.ensures.items ∙ ap (λ (t : List ℕ). listed ++ t) (c.as_bytes-2.ensures.value ∙ c.in_ok-format-2.ensures.ok))
-          (told (readings_of group arms c.args.t.now U is v L A c.args.fulls.now are n (c.in_ok-order.ensures ∙ c.order.ensures.order) gens
+          (c.in_ok-push_generators.ensures ∙ ap (λ (xs : List Op). begun ++ numbered generator_text 1 xs)
+          c.deref-2.ensures.value)
+          (c.in_ok-extend_from_slice-2.ensures.items ∙ ap (λ (t : List ℕ). listed ++ t) (c.as_bytes-2.ensures.value
+          ∙ c.in_ok-format-2.ensures.ok))
+          (told (readings_of group arms c.args.t.now U is v L A c.args.fulls.now are n (c.in_ok-order.ensures
+          ∙ c.order.ensures.order) gens
           (operations_printable group) c.in_ok-gens.ensures.printable))
           c.in_ok-extend_from_slice-3.ensures.items;
     }
