@@ -5,7 +5,7 @@
 --   printed, fulls_of      the star and the full representations are those of a text
 --   full_text_at           the text is that of full representations
 --   full_reply_of          the text is the reply for the group of generators
-use Rattle.std.proofs.Common.{◌≡◌, sym, ◌∙◌, ap, subst, refl, ℕ, ◌<◌, ◌≤◌, List, length, get_or, arith}
+use Rattle.std.proofs.Common.{sym, ◌∙◌, ap, subst, refl, ℕ, ◌<◌, ◌≤◌, List, length, get_or, arith}
 use Rattle.std.specs.Int.{◌∣◌}
 use Rattle.std.specs.List.{All}
 use Rattle.std.proofs.lemmas.List.{get_or_default}
@@ -114,9 +114,6 @@ module _ {X : Type 0} {V : Ghosts X} {h : ℕ} (T : PhaseTable h) (places : h �
         some_places : 0 < h
         some_places = let l = to_nat-lt T.start in omega (arith, l)
 
-    lifted : Representation (phases_over T T.order v) (s.list.size m)
-    lifted = over T T.order v (s.list.member m)
-
     pub small_family : IsSmallFamily T.order (over T T.order v (s.list.member m)).at family
     small_family = record {
       size = is_read.size;
@@ -149,14 +146,19 @@ module _ (group : Group) (w : WaveVector) (arms : List Arm) (t : Twisted) (are :
 
   module _ {X : Type 0} {V : Ghosts X} (fs : List (Family X V)) (s : IsSmallList (phase_table t) fs)
       (sizes : All (HasSharpSizes (phase_table t).order (place_count t)) fs) where
-    abbrev pub N : ℕ
-    N = (phase_table t).order
-
-    pub itself : N ∣ N
-    itself = Nat.dvd_refl N
+    pub itself : (phase_table t).order ∣ (phase_table t).order
+    itself = Nat.dvd_refl (phase_table t).order
 
     places : place_count t ≤ 48
     places = t.places_within
+
+    abbrev pub member : (m : Fin s.list.count)
+        → Representation (phases_over (phase_table t) (phase_table t).order itself) (s.list.size m)
+    member m = over (phase_table t) (phase_table t).order itself (s.list.member m)
+
+    small_member : (m : Fin s.list.count) (other : Family X V)
+        → IsSmallFamily (phase_table t).order (member m).at (get_or fs (to_nat m) other)
+    small_member = small_family (phase_table t) places itself fs s sizes
 
     pub inducible : All (IsInducible group arms t) fs
     inducible k f l =
@@ -164,33 +166,38 @@ module _ (group : Group) (w : WaveVector) (arms : List Arm) (t : Twisted) (are :
         let m : Fin s.list.count = from_nat s.list.count k below in (
           w,
           star,
-          N,
+          (phase_table t).order,
           itself,
           s.list.size m,
-          over (phase_table t) N itself (s.list.member m),
+          member m,
           is_star,
-          subst (λ n. IsSmallFamily N (over (phase_table t) N itself (s.list.member m)).at (get_or fs n f)) (to_nat-from_nat s.list.count k below)
-              (small_family (phase_table t) places itself fs s sizes m f),
+          subst (λ n. IsSmallFamily (phase_table t).order (member m).at (get_or fs n f)) (to_nat-from_nat s.list.count k below)
+              (small_member m f),
         )
 
     pub matrices : Matrices group star s.list
     matrices = full_of_list (stands_for group) (space_group group).is_group (has_canonical group) star s.list
 
-    pub fulls_of : (fulls : List (Full X V)) → AreInducedFrom group arms t fs fulls → AreFullsOf group star itself s.list matrices fulls
+    pub fulls_of : (fulls : List (Full X V)) → AreInducedFrom group arms t fs fulls
+        → AreFullsOf group star itself s.list matrices fulls
     unfolding matrices
     fulls_of fulls are_induced = record {
       count = are_induced.count ∙ s.read.count;
-      induced = λ m g. let e : Family X V = some_item fs (to_nat m) (inside (phase_table t) places itself fs s sizes m) in
-          (are_induced.each (to_nat m) e g (inside (phase_table t) places itself fs s sizes m)).induced w star N itself (s.list.size m)
-          (over (phase_table t) N itself (s.list.member m)) is_star (small_family (phase_table t) places itself fs s sizes m e);
+      induced = λ m g.
+          let l = inside (phase_table t) places itself fs s sizes m in
+          let e : Family X V = some_item fs (to_nat m) l in
+          (are_induced.each (to_nat m) e g l).induced w star (phase_table t).order itself (s.list.size m) (member m) is_star
+          (small_member m e);
       is_full = λ m. full_of_list-is (stands_for group) (space_group group).is_group (has_canonical group) star s.list itself m;
     }
 
-    pub full_text_at : (reduced : IsReduced (stands_for group) w w) (fulls : List (Full X V)) (are_induced : AreInducedFrom group arms t fs fulls)
+    pub full_text_at : (reduced : IsReduced (stands_for group) w w) (fulls : List (Full X V))
+        (are_induced : AreInducedFrom group arms t fs fulls)
         (text : List ℕ) → IsTextAt group star s.list matrices text → IsFullText (sign_of group.phase) (stands_for group) w text
     full_text_at reduced fulls are_induced text is = record {
       content = full_content w star is.generators (λ m. times star.arms (s.list.size m)) matrices;
-      is_content = complete_content (stands_for group) (space_group group).is_group (has_canonical group) star s.list s.complete s.ordered reduced
+      is_content = complete_content (stands_for group) (space_group group).is_group (has_canonical group) star s.list s.complete
+          s.ordered reduced
           matrices itself (fulls_of fulls are_induced).is_full is.generators is.are_generators;
       is_text = is.is_text;
     }
