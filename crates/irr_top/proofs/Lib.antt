@@ -17,4 +17,5 @@ pub mod RequestWords
 pub mod FirstPieces
 pub mod FirstArms
 pub mod StarTexts
+pub mod FullTexts
 pub mod OneStar

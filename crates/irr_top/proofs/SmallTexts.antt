@@ -1,5 +1,6 @@
 -- The text of a report at a wave vector, from that on the table of the little group of its reduced wave vector.
 --   order_there        the order
+--   order_of_table     the order of the table is that of the wave vector
 --   small_text_of      a report
 --   table_steps        each subgroup of the table has a step
 --   small_reply_of     the text is the reply
@@ -51,14 +52,14 @@ module _ (group : Group) (gens : List Op) (is : IsGroupOf group gens) (k w : Wav
     is_table = subst (λ s. IsTableOf s (group_of gens) w ops T) (ap sign_of is.phase)
         (table_along (stands_for group) (group_of gens) is.stands (sign_of group.phase) w ops T (table.table some_operation))
 
-    is_order : IsOrder (group_of gens) k T.order
-    is_order = order_there T.order (table.table some_operation).is_order
+    pub order_of_table : IsOrder (group_of gens) k T.order
+    order_of_table = order_there T.order (table.table some_operation).is_order
 
     pub small_text_of : (text : List ℕ) → ((d : Op) → IsListText w (listed_operations group h xs d) T text)
         → IsModestText gens k text
     small_text_of text all = let t = all some_operation in record {
       order = T.order;
-      is_order = is_order;
+      is_order = order_of_table;
       within = within;
       content = list_report w ops T t.representations;
       is_report = record {

@@ -5,6 +5,7 @@ pub mod GroupOf
 pub mod Question
 pub mod StarCommand
 pub mod SmallCommand
+pub mod FullCommand
 pub mod CheckCommand
 pub mod Answer
 pub mod Asked
@@ -14,3 +15,4 @@ pub mod Task
 pub mod Members
 pub mod ListText
 pub mod StarText
+pub mod FullFamilies

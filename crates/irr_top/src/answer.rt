@@ -16,6 +16,7 @@ ghost use Rattle.irr_top.specs.Outcome.{OutcomeOf, Serves};
 ghost use Rattle.irr_top.specs.Task.{asked_by, IsLimited};
 
 use crate::check::check_reply;
+use crate::full::full_reply;
 use crate::refusal::{finish, refuse};
 use crate::reply::{NoReply, Reply};
 use crate::request::Request;
@@ -176,6 +177,7 @@ fn reply_of(alloc: Global, task: &Task, group: &Group) -> Result<Reply, NoReply>
     match task {
         Task::Star(wave) => star_reply(alloc, group, wave),
         Task::Small(wave) => small_reply(alloc, group, wave),
+        Task::Full(wave) => full_reply(alloc, group, wave),
         Task::Check(report) => check_reply(alloc, group, report),
     }
 }

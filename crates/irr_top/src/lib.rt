@@ -3,6 +3,7 @@
 
 mod answer;
 mod check;
+mod full;
 mod laws;
 mod refusal;
 mod reply;

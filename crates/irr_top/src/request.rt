@@ -13,6 +13,8 @@ pub(crate) enum Request {
     Star(Wave),
     /// The small representations at a wave vector.
     Small(Wave),
+    /// The full representations at a wave vector.
+    Full(Wave),
     /// The verdict on the input's report.
     Check,
 }
@@ -41,12 +43,9 @@ fn request_of(command: Command) -> Option<Request>
     match command {
         Command::Star(wave) => Some(Request::Star(wave)),
         Command::Small(wave) => Some(Request::Small(wave)),
+        Command::Full(wave) => Some(Request::Full(wave)),
         Command::Check => Some(Request::Check),
-        Command::Full(_)
-        | Command::Product(..)
-        | Command::Subduce(_)
-        | Command::Compat(..)
-        | Command::Gen(_) => None,
+        Command::Product(..) | Command::Subduce(_) | Command::Compat(..) | Command::Gen(_) => None,
     }
 }
 
@@ -55,7 +54,7 @@ fn begins_served(words: &[Vec<u8>]) -> bool
     ensures { IsTrue result ↔ BeginsServed (texts words.now) }
 {
     match words.split_first() {
-        Some((first, _)) => matches!(first.as_slice(), b"star" | b"small" | b"check"),
+        Some((first, _)) => matches!(first.as_slice(), b"star" | b"small" | b"full" | b"check"),
         None => false,
     }
 }

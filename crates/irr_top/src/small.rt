@@ -1,5 +1,6 @@
 // `small`: the small representations at a wave vector.
 ghost use Rattle.std.specs.Prelude.{ℕ, ◌≡◌, ◌≤◌, List, IfOk, IfErr};
+ghost use Rattle.std.specs.List.{All};
 ghost use Rattle.irr_space.specs.Reciprocal.{IsReduced};
 ghost use Rattle.irr_seitz.specs.declared.op.Op.{Op};
 ghost use Rattle.irr_kvec.specs.Centrings.{IsWithinLimits};
@@ -8,6 +9,8 @@ ghost use Rattle.irr_close.specs.declared.group.Group.{Group};
 ghost use Rattle.irr_chain.specs.NormalSubgroup.{HasSteps};
 ghost use Rattle.irr_cyc.specs.declared.orders.TheConstants.{ORDER_LIMIT};
 ghost use Rattle.irr_rep.specs.Twisted.{phase_table, place_count, operation_places};
+ghost use Rattle.irr_climb.specs.Lists.{IsSmallList};
+ghost use Rattle.irr_climb.specs.Sizes.{HasSharpSizes, HasSmallNumbers};
 ghost use Rattle.irr_little.specs.Table.{IsLittleTable, listed_operations};
 ghost use Rattle.irr_top.specs.GroupOf.{IsGroupOf, group_of};
 ghost use Rattle.irr_top.specs.Question.Question.{small as asked};
@@ -23,7 +26,7 @@ use irr_close::Group;
 use irr_kvec::{Wave, reduced};
 use irr_little::{LittleError, little};
 use irr_memory::Memory;
-use irr_rep::Twisted;
+use irr_rep::{Family, Twisted};
 use std::alloc::Global;
 
 /// Replies to `small` at a wave vector, with this group.
@@ -60,8 +63,8 @@ fn small_text(alloc: Global, group: &Group, k: &Wave) -> Result<Vec<u8>, NoReply
     }
 }
 
-// The reduced wave vector.
-fn reduced_wave(group: &Group, wave: &Wave) -> Wave
+/// The reduced wave vector.
+pub(crate) fn reduced_wave(group: &Group, wave: &Wave) -> Wave
     requires group { (gens : List Op) × IsGroupOf group.now gens }
     requires limits { IsWithinLimits wave.now }
     ensures reduced { (gens : List Op) → IsGroupOf group.now gens
@@ -79,11 +82,22 @@ fn table_text(alloc: Global, group: &Group, wave: Wave, t: &Twisted) -> Result<V
     ensures { (d : Op) → IfOk result (λ text. IsListText (wave_vector wave)
         (listed_operations group.now (place_count t.now) (operation_places t.now) d) (phase_table t.now) text.items) }
 {
+    let families = small_list(alloc, t)?;
+    let text = list_text(alloc, group, wave, t, families)?;
+    Ok(text)
+}
+
+/// A complete list of small representations of the table of a little group, in canonical order. The error is want
+/// of memory.
+pub(crate) fn small_list(alloc: Global, t: &Twisted) -> Result<Vec<Family<Number>>, Memory>
+    requires within { (phase_table t.now).order ≤ ORDER_LIMIT }
+    requires steps { HasSteps (phase_table t.now) }
+    ensures list { IfOk result (λ fs. IsSmallList (phase_table t.now) fs.items) }
+    ensures sizes { IfOk result (λ fs. All (HasSharpSizes (phase_table t.now).order (place_count t.now)) fs.items) }
+    ensures numbers { IfOk result (λ fs. All (HasSmallNumbers (phase_table t.now).order (place_count t.now)) fs.items) }
+{
     match small_reps::<Number>(alloc, t) {
-        Ok(families) => {
-            let text = list_text(alloc, group, wave, t, families)?;
-            Ok(text)
-        }
+        Ok(families) => Ok(families),
         Err(ClimbError::Unchained(_)) => unreachable!(),
         Err(ClimbError::Memory) => Err(Memory),
     }

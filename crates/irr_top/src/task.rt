@@ -22,6 +22,8 @@ pub(crate) enum Task {
     Star(Wave),
     /// The small representations at a wave vector.
     Small(Wave),
+    /// The full representations at a wave vector.
+    Full(Wave),
     /// The verdict on a report.
     Check(Report<Number>),
 }
@@ -37,6 +39,7 @@ pub(crate) fn task_of(request: &Request, report: Option<Report<Number>>) -> Opti
     match request {
         Request::Star(wave) => Some(Task::Star(*wave)),
         Request::Small(wave) => Some(Task::Small(*wave)),
+        Request::Full(wave) => Some(Task::Full(*wave)),
         Request::Check => match report {
             Some(report) => Some(Task::Check(report)),
             None => None,

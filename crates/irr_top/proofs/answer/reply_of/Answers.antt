@@ -14,6 +14,10 @@ pub returns-in-Small-clause-none : goal.returns-in-Small-clause-none
 returns-in-Small-clause-none c = λ gens is. subst (λ (t : Task). IfErr c.small_reply.result (IsNoReply (asked_by t) (group_of gens)))
     (sym c.in-Small.is) (c.small_reply.ensures.none gens is)
 
+pub returns-in-Full-clause-none : goal.returns-in-Full-clause-none
+returns-in-Full-clause-none c = λ gens is. subst (λ (t : Task). IfErr c.full_reply.result (IsNoReply (asked_by t) (group_of gens)))
+    (sym c.in-Full.is) (c.full_reply.ensures.none gens is)
+
 pub returns-in-Check-clause-none : goal.returns-in-Check-clause-none
 returns-in-Check-clause-none c = λ gens is. subst (λ (t : Task). IfErr c.check_reply.result (IsNoReply (asked_by t) (group_of gens)))
     (sym c.in-Check.is) (c.check_reply.ensures.none gens is)
