@@ -8,12 +8,12 @@ ghost use Rattle.irr_top.specs.Question.{question_of};
 ghost use Rattle.irr_top.specs.Task.{asked_by, IsLimited};
 
 use crate::request::Request;
-use irr_cyc::Dense;
+use irr_sparse::Sparse;
 use irr_kvec::Wave;
 use irr_report::Report;
 
 /// The numbers that the program works with.
-pub(crate) type Number = Dense;
+pub(crate) type Number = Sparse;
 
 /// What is asked for, with the section of the input that it needs.
 #[derive(Drop)]
