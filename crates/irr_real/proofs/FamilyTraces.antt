@@ -2,7 +2,7 @@
 --   trace_fits, trace_value          the trace of the matrix at a place
 --   admitted                         what holds of the order of each number holds of the order of the family
 --   same_place                       a place of the table as one of a family with these matrices
---   trace_few                        the trace of a small representation is a sum of at most 48 powers of z
+--   item_fits, item_few              the trace of a small representation is a sum of at most 48 powers of z
 --   turned_few, turn_room, add_room  such a trace times a power of z, and sums of such
 use Rattle.std.proofs.Common.{◌≡◌, sym, ◌∙◌, ap, subst, refl, ℕ, ◌+◌, ◌*◌, ◌<◌, ◌≤◌, ◌^◌, List, [], ◌∷◌, length, get_or, arith}
 use Rattle.std.proofs.lemmas.List.{get_or_default}
@@ -64,8 +64,18 @@ module _ {X : Type 0} {V : Ghosts X} {h : ℕ} (T : PhaseTable h) (M : ℕ) (f :
   same_place {g} D other place l =
       let m = subst (λ n. place < n) (sym is.family.shape.count ∙ other.shape.count) l in (from_nat g place m, to_nat-from_nat g place m)
 
-  pub trace_few : 0 < M → (p : Fin h) → IsRootSum M 48 1 (trace (is.small.at p))
-  trace_few positive p = IsRootSum-more M 48 is.family.few (trace-IsRootSum M positive T is.divides is.small p)
+  module _ (place : ℕ) (l : place < h) (m : Mat X V) (at : m ≡ get_or f.mats.items place m) where
+    pub item_fits : TraceFits (first_order V.order_of m.entries.items)
+        (matrix_of V.value (first_order V.order_of m.entries.items) m.rows m.rows m.entries.items)
+    item_fits = let p = place_at place l in trace_fits M is.small.at f is.family place m at p.0 p.1
+
+    pub item_few : 0 < M → (x : X)
+        → V.value (first_order V.order_of m.entries.items) x
+        ≡ trace (matrix_of V.value (first_order V.order_of m.entries.items) m.rows m.rows m.entries.items)
+        → IsRootSum M 48 1 (V.value M x)
+    item_few positive x v = let p = place_at place l in
+        subst (IsRootSum M 48 1) (sym (trace_value M is.small.at f is.family place m at p.0 p.1 x v))
+        (IsRootSum-more M 48 is.family.few (trace-IsRootSum M positive T is.divides is.small p.0))
 
 pub turned_few : (n e : ℕ) (x y z : Number n) → x ≡ root_power n e → IsRootSum n 48 1 y → z ≡ (numbers n).mul x y → IsRootSum n 48 1 z
 turned_few n e x y z first second product = subst (IsRootSum n 48 1) (sym product)
