@@ -3,6 +3,7 @@
 --   admitted                         what holds of the order of each number holds of the order of the family
 --   same_place                       a place of the table as one of a family with these matrices
 --   item_fits, item_few              the trace of a small representation is a sum of at most 48 powers of z
+--   root_few                         a power of z
 --   turned_few, turn_room, add_room  such a trace times a power of z, and sums of such
 use Rattle.std.proofs.Common.{◌≡◌, sym, ◌∙◌, ap, subst, refl, ℕ, ◌+◌, ◌*◌, ◌<◌, ◌≤◌, ◌^◌, List, [], ◌∷◌, length, get_or, arith}
 use Rattle.std.proofs.lemmas.List.{get_or_default}
@@ -77,9 +78,12 @@ module _ {X : Type 0} {V : Ghosts X} {h : ℕ} (T : PhaseTable h) (M : ℕ) (f :
         subst (IsRootSum M 48 1) (sym (trace_value M is.small.at f is.family place m at p.0 p.1 x v))
         (IsRootSum-more M 48 is.family.few (trace-IsRootSum M positive T is.divides is.small p.0))
 
+pub root_few : (n e : ℕ) (x : Number n) → x ≡ root_power n e → IsRootSum n 1 1 x
+root_few n e x is = subst (IsRootSum n 1 1) (sym is) (IsRootSum-root n e)
+
 pub turned_few : (n e : ℕ) (x y z : Number n) → x ≡ root_power n e → IsRootSum n 48 1 y → z ≡ (numbers n).mul x y → IsRootSum n 48 1 z
 turned_few n e x y z first second product = subst (IsRootSum n 48 1) (sym product)
-    (IsRootSum-mul n (subst (IsRootSum n 1 1) (sym first) (IsRootSum-root n e)) second)
+    (IsRootSum-mul n (root_few n e x first) second)
 
 pub turn_room : (n : ℕ) → n ≤ 12000 → 1 * n * (48 * n) ≤ 2 ^ 100
 turn_room n l =

@@ -252,9 +252,21 @@ fn complex_with_one_arm(rt: HostRuntime) -> Result<(), Fail> {
     let unit = [Some(0)];
     let plus = [Some(1)];
     let minus = [Some(3)];
-    let first = type_of::<Dense>(alloc, &generators, &k, 1, &[unit.as_slice(), plus.as_slice()])?;
+    let first = type_of::<Dense>(
+        alloc,
+        &generators,
+        &k,
+        1,
+        &[unit.as_slice(), plus.as_slice()],
+    )?;
     assert!(rt; first == Some(0));
-    let second = type_of::<Dense>(alloc, &generators, &k, 1, &[unit.as_slice(), minus.as_slice()])?;
+    let second = type_of::<Dense>(
+        alloc,
+        &generators,
+        &k,
+        1,
+        &[unit.as_slice(), minus.as_slice()],
+    )?;
     assert!(rt; second == Some(0));
     Ok(())
 }

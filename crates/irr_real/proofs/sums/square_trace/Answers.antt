@@ -1,11 +1,9 @@
 -- A power of z times a trace.
-use Rattle.std.proofs.Common.{◌≡◌, sym, ◌∙◌, ap₂, subst, ◌^◌, arith}
+use Rattle.std.proofs.Common.{◌≡◌, ◌∙◌, ap₂, subst, ◌^◌, arith}
 use Rattle.irr_number.specs.Number.{numbers}
-use Rattle.irr_canonical.specs.RootSum.{IsRootSum}
-use Rattle.irr_canonical.proofs.RootSums.{IsRootSum-root}
 use Rattle.irr_mat.proofs.Sizes.{product_sizes, sum_denominators}
 use Rattle.irr_rep.specs.Twisted.{phase_table}
-use Rattle.irr_real.proofs.FamilyTraces.{admitted, item_few, item_fits, trace_value, turned_few, turn_room}
+use Rattle.irr_real.proofs.FamilyTraces.{admitted, item_few, item_fits, root_few, trace_value, turned_few, turn_room}
 use Rattle.irr_real.proofs.sums.square_trace.Goals as goal
 
 pub root-requires-clause-admitted : goal.root-requires-clause-admitted
@@ -23,7 +21,7 @@ mul-requires-clause-denominators g c =
     sum_denominators g.S.Scalar.value (g.S.Scalar.order_of x) n
     (g.met.S.Scalar.admitted_positive (g.S.Scalar.order_of x) (g.met.S.Scalar.order_admitted x)) c.in_ok-phase.ensures.order
     1 1 48 1 x c.in_ok-sum.sum
-    (subst (IsRootSum n 1 1) (sym c.in_ok-phase.ensures.value) (IsRootSum-root n c.args.square.exponent))
+    (root_few n c.args.square.exponent (g.S.Scalar.value n x) c.in_ok-phase.ensures.value)
     (item_few (phase_table c.args.t.now) n c.args.f.now c.requires.family c.args.square.place c.requires.place c.index-matrix.result.now
     c.index-matrix.ensures c.args.order.now.positive c.in_ok-sum.sum c.in_ok-sum.ensures.value)
     (2 ^ 60) (omega arith)
@@ -35,7 +33,7 @@ mul-requires-clause-sizes g c =
     product_sizes g.S.Scalar.value (g.S.Scalar.order_of x) n
     (g.met.S.Scalar.admitted_positive (g.S.Scalar.order_of x) (g.met.S.Scalar.order_admitted x)) c.in_ok-phase.ensures.order
     1 1 48 1 x c.in_ok-sum.sum
-    (subst (IsRootSum n 1 1) (sym c.in_ok-phase.ensures.value) (IsRootSum-root n c.args.square.exponent))
+    (root_few n c.args.square.exponent (g.S.Scalar.value n x) c.in_ok-phase.ensures.value)
     (item_few (phase_table c.args.t.now) n c.args.f.now c.requires.family c.args.square.place c.requires.place c.index-matrix.result.now
     c.index-matrix.ensures c.args.order.now.positive c.in_ok-sum.sum c.in_ok-sum.ensures.value)
     (2 ^ 100) (turn_room n c.args.order.now.limited)

@@ -1,5 +1,5 @@
 -- All entries.
-use Rattle.std.proofs.Common.{◌≡◌, sym, ◌∙◌, ap, subst, ◌*◌, length, rules}
+use Rattle.std.proofs.Common.{◌≡◌, sym, ◌∙◌, ap, subst, length, rules}
 use Rattle.irr_mat.specs.Entries.{first_order, matrix_of}
 use Rattle.irr_mat.specs.Size.{IsWithin}
 use Rattle.irr_real.proofs.PowerMatrices.{PowersSoFar, powers_more, powers_none, powers_orders, powers_within}

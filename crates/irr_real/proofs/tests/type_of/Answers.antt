@@ -40,7 +40,9 @@ reality-requires-clause-family g c =
     let done : c.loop-powers.powers-index ≡ length c.args.matrices.now = search rules in
     let v = subst (λ u. T.order ∣ u) (sym (c.in_ok-order.ensures ∙ c.order.ensures.order)) (Nat.dvd_refl T.order) in
     let so = subst (λ k. MatricesSoFar n rows k mats) (done ∙ c.if-matrices-len.false ∙ c.len.ensures.count) c.loop-powers.invariant in
-    let limited = c.in_ok-order.order.limited in
-    (n, small_family T n limited v (record { dim = rows; mats = c.loop-powers.mats }) some few so
-    (represented T n limited v rows some few mats so c.in_ok-_defect.field-0 c.in_default-2.is
-    (c.in_ok-_defect.ensures (checkable T n limited v rows some few mats so))))
+    let limited = c.in_ok-order.order.limited in (
+      n,
+      small_family T n limited v (record { dim = rows; mats = c.loop-powers.mats }) some few so
+          (represented T n limited v rows some few mats so c.in_ok-_defect.field-0 c.in_default-2.is
+          (c.in_ok-_defect.ensures (checkable T n limited v rows some few mats so))),
+    )
