@@ -6,7 +6,8 @@
 --   checkable            such a family can be checked
 --   represented          where no defect is found, it is a small representation
 --   small_family         a small one
-use Rattle.std.proofs.Common.{◌≡◌, sym, ◌∙◌, ap, subst, refl, ℕ, ◌+◌, ◌*◌, ◌<◌, ◌≤◌, ◌^◌, List, [], ◌∷◌, ◌++◌, length, length-append, Option, None, arith}
+use Rattle.std.proofs.Common.{◌≡◌, sym, ◌∙◌, ap, subst, refl, ℕ, ◌+◌, ◌*◌, ◌<◌, ◌≤◌, ◌^◌, List, [], ◌∷◌, ◌++◌, length}
+use Rattle.std.proofs.Common.{length-append, Option, None, arith}
 use Rattle.std.specs.List.{All}
 use Rattle.std.specs.Int.{◌∣◌}
 use Rattle.std.proofs.lemmas.List.Elements.{All-nil, All-push}
@@ -43,12 +44,14 @@ module _ {S : Type 0} (order : S → ℕ) (value : (n : ℕ) → S → Number n)
     few = subst (All (λ x. IsRootSum n 1 1 (value n x))) (sym e) (All-nil (λ x. IsRootSum n 1 1 (value n x)));
   }
 
-  pub powers_more : (k : ℕ) (xs after : List S) (x : S) → PowersSoFar k xs → after ≡ xs ++ x ∷ [] → order x ≡ n → IsRootSum n 1 1 (value n x)
+  pub powers_more : (k : ℕ) (xs after : List S) (x : S) → PowersSoFar k xs → after ≡ xs ++ x ∷ [] → order x ≡ n
+      → IsRootSum n 1 1 (value n x)
       → PowersSoFar (k + 1) after
   powers_more k xs after x s e o r = record {
     count = ap length e ∙ length-append xs (x ∷ []) ∙ ap (λ j. j + 1) s.count;
     orders = subst (All (λ x. order x ≡ n)) (sym e) (All-push (λ x. order x ≡ n) xs x s.orders o);
-    few = subst (All (λ x. IsRootSum n 1 1 (value n x))) (sym e) (All-push (λ x. IsRootSum n 1 1 (value n x)) xs x s.few r);
+    few = subst (All (λ x. IsRootSum n 1 1 (value n x))) (sym e)
+        (All-push (λ x. IsRootSum n 1 1 (value n x)) xs x s.few r);
   }
 
   module _ (d : ℕ) (some : 0 < d) (xs : List S) (s : PowersSoFar (d * d) xs) where
@@ -70,9 +73,14 @@ module _ {S : Type 0} {G : Ghosts S} (n d : ℕ) where
     pub each : All IsPowerMatrix mats
 
   pub matrices_none : (mats : List (Mat S G)) → mats ≡ [] → MatricesSoFar 0 mats
-  matrices_none mats e = record { count = ap length e; each = subst (All IsPowerMatrix) (sym e) (All-nil IsPowerMatrix) }
+  matrices_none mats e = record {
+    count = ap length e;
+    each = subst (All IsPowerMatrix) (sym e)
+        (All-nil IsPowerMatrix);
+  }
 
-  pub matrices_more : (k : ℕ) (mats after : List (Mat S G)) (m : Mat S G) → MatricesSoFar k mats → after ≡ mats ++ m ∷ [] → IsPowerMatrix m
+  pub matrices_more : (k : ℕ) (mats after : List (Mat S G)) (m : Mat S G) → MatricesSoFar k mats → after
+      ≡ mats ++ m ∷ [] → IsPowerMatrix m
       → MatricesSoFar (k + 1) after
   matrices_more k mats after m s e is = record {
     count = ap length e ∙ length-append mats (m ∷ []) ∙ ap (λ j. j + 1) s.count;
@@ -84,7 +92,8 @@ trace_room d n few limited =
     let a : d * 1 * n ≤ 2 * 1 * 12000 = Nat.mul-le-mul (Nat.mul-le-mul_right 1 few) limited in
     omega (arith, a)
 
-module _ {S : Type 0} {G : Ghosts S} {h : ℕ} (T : PhaseTable h) (n : ℕ) (limited : n ≤ 12000) (v : T.order ∣ n) (d : ℕ) (some : 0 < d) (few : d ≤ 2)
+module _ {S : Type 0} {G : Ghosts S} {h : ℕ} (T : PhaseTable h) (n : ℕ) (limited : n ≤ 12000) (v : T.order ∣ n)
+    (d : ℕ) (some : 0 < d) (few : d ≤ 2)
     (mats : List (Mat S G)) (s : MatricesSoFar n d h mats) where
   pub within : (i : Fin h) → IsWithin n 1 1 (matrix_at n d mats i)
   within i =
@@ -119,7 +128,8 @@ module _ {S : Type 0} {G : Ghosts S} {h : ℕ} (T : PhaseTable h) (n : ℕ) (lim
   unfolding IsFirstDefect
   represented r e is = subst (IsFirstDefect T n v d mats) e is
 
-module _ {S : Type 0} {G : Ghosts S} {h : ℕ} (T : PhaseTable h) (n : ℕ) (limited : n ≤ 12000) (v : T.order ∣ n) (f : Family S G) (some : 0 < f.dim)
+module _ {S : Type 0} {G : Ghosts S} {h : ℕ} (T : PhaseTable h) (n : ℕ) (limited : n ≤ 12000) (v : T.order ∣ n)
+    (f : Family S G) (some : 0 < f.dim)
     (few : f.dim ≤ 2) (s : MatricesSoFar n f.dim h f.mats.items) (p : IsRepresentationOf T n v f.dim f.mats.items) where
   pub small_family : IsSmallFamily T n f
   small_family = record {

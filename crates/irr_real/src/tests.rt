@@ -172,7 +172,8 @@ fn matrix<S: Scalar>(
     ensures rows { IfOk result (λ m. m.rows ≡ rows) }
     ensures cols { IfOk result (λ m. m.cols ≡ rows) }
     ensures order { IfOk result (λ m. first_order S.order_of m.entries.items ≡ order.now.n) }
-    ensures within { let n = order.now.n in IfOk result (λ m. IsWithin n 1 1 (matrix_of S.value n rows rows m.entries.items)) }
+    ensures within { let n = order.now.n in
+        IfOk result (λ m. IsWithin n 1 1 (matrix_of S.value n rows rows m.entries.items)) }
 {
     let mut entries = Vec::new(alloc);
     for power in powers {

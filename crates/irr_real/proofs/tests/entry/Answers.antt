@@ -12,4 +12,5 @@ returns-in_ok-root-in-Some-clause-few g c =
 pub returns-in_ok-zero-in-None-clause-few : goal.returns-in_ok-zero-in-None-clause-few
 returns-in_ok-zero-in-None-clause-few g c =
     let n = c.args.order.now.n in
-    subst (IsRootSum n 1 1) (sym c.in_ok-zero-in-None.ensures.value) (IsRootSum-more n 1 (omega arith) (IsRootSum-zero n 1 (omega arith)))
+    subst (IsRootSum n 1 1) (sym c.in_ok-zero-in-None.ensures.value)
+    (IsRootSum-more n 1 (omega arith) (IsRootSum-zero n 1 (omega arith)))

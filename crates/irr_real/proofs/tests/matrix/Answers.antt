@@ -6,11 +6,14 @@ use Rattle.irr_real.proofs.PowerMatrices.{PowersSoFar, powers_more, powers_none,
 use Rattle.irr_real.proofs.tests.matrix.Goals as goal
 
 pub loop-power-init : goal.loop-power-init
-loop-power-init g c = powers_none g.S.Scalar.order_of g.S.Scalar.value c.args.order.now.n c.new-entries.result.items c.new-entries.ensures.items
+loop-power-init g c = powers_none g.S.Scalar.order_of g.S.Scalar.value c.args.order.now.n c.new-entries.result.items
+    c.new-entries.ensures.items
 
 pub loop-power-preserved : goal.loop-power-preserved
-loop-power-preserved g c = powers_more g.S.Scalar.order_of g.S.Scalar.value c.args.order.now.n c.loop-power.power-index c.loop-power.entries.items
-    c.push.new.self.items c.in_ok-entry.entry c.loop-power.invariant c.in_ok-push.ensures.items c.in_ok-entry.ensures.order c.in_ok-entry.ensures.few
+loop-power-preserved g c = powers_more g.S.Scalar.order_of g.S.Scalar.value c.args.order.now.n
+    c.loop-power.power-index c.loop-power.entries.items
+    c.push.new.self.items c.in_ok-entry.entry c.loop-power.invariant c.in_ok-push.ensures.items
+    c.in_ok-entry.ensures.order c.in_ok-entry.ensures.few
 
 pub from_entries-requires-clause-filled : goal.from_entries-requires-clause-filled
 from_entries-requires-clause-filled g c =

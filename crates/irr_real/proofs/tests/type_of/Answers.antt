@@ -7,7 +7,8 @@ use Rattle.irr_real.proofs.PowerMatrices.{MatricesSoFar, checkable, matrices_mor
 use Rattle.irr_real.proofs.tests.type_of.Goals as goal
 
 pub loop-powers-preserved : goal.loop-powers-preserved
-loop-powers-preserved g c = matrices_more c.in_ok-order.order.n c.args.rows c.loop-powers.powers-index c.loop-powers.mats.items
+loop-powers-preserved g c = matrices_more c.in_ok-order.order.n c.args.rows c.loop-powers.powers-index
+    c.loop-powers.mats.items
     c.push.new.self.items c.in_ok-matrix.matrix c.loop-powers.invariant c.in_ok-push.ensures.items
     (record {
       rows = c.in_ok-matrix.ensures.rows;
@@ -27,7 +28,8 @@ first_defect-requires g c =
     let done : c.loop-powers.powers-index ≡ length c.args.matrices.now = search rules in
     let v = subst (λ u. T.order ∣ u) (sym (c.in_ok-order.ensures ∙ c.order.ensures.order)) (Nat.dvd_refl T.order) in
     checkable T n c.in_ok-order.order.limited v rows some few mats
-    (subst (λ k. MatricesSoFar n rows k mats) (done ∙ c.if-matrices-len.false ∙ c.len.ensures.count) c.loop-powers.invariant)
+    (subst (λ k. MatricesSoFar n rows k mats) (done ∙ c.if-matrices-len.false ∙ c.len.ensures.count)
+    c.loop-powers.invariant)
 
 pub reality-requires-clause-family : goal.reality-requires-clause-family
 reality-requires-clause-family g c =
@@ -39,7 +41,8 @@ reality-requires-clause-family g c =
     let few : rows ≤ 2 = search rules in
     let done : c.loop-powers.powers-index ≡ length c.args.matrices.now = search rules in
     let v = subst (λ u. T.order ∣ u) (sym (c.in_ok-order.ensures ∙ c.order.ensures.order)) (Nat.dvd_refl T.order) in
-    let so = subst (λ k. MatricesSoFar n rows k mats) (done ∙ c.if-matrices-len.false ∙ c.len.ensures.count) c.loop-powers.invariant in
+    let so = subst (λ k. MatricesSoFar n rows k mats) (done ∙ c.if-matrices-len.false ∙ c.len.ensures.count)
+    c.loop-powers.invariant in
     let limited = c.in_ok-order.order.limited in (
       n,
       small_family T n limited v (record { dim = rows; mats = c.loop-powers.mats }) some few so
