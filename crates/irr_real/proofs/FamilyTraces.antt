@@ -2,9 +2,11 @@
 --   trace_fits, trace_value          the trace of the matrix at a place
 --   admitted                         what holds of the order of each number holds of the order of the family
 --   same_place                       a place of the table as one of a family with these matrices
---   trace_few                        the trace of a small representation is a sum of at most 48 powers of z
+--   item_fits, item_few              the trace of a small representation is a sum of at most 48 powers of z
+--   root_few                         a power of z
 --   turned_few, turn_room, add_room  such a trace times a power of z, and sums of such
-use Rattle.std.proofs.Common.{◌≡◌, sym, ◌∙◌, ap, subst, refl, ℕ, ◌+◌, ◌*◌, ◌<◌, ◌≤◌, ◌^◌, List, [], ◌∷◌, length, get_or, arith}
+use Rattle.std.proofs.Common.{◌≡◌, sym, ◌∙◌, ap, subst, refl, ℕ, ◌+◌, ◌*◌, ◌<◌, ◌≤◌, ◌^◌, List, [], ◌∷◌, length}
+use Rattle.std.proofs.Common.{get_or, arith}
 use Rattle.std.proofs.lemmas.List.{get_or_default}
 use native.Mathlib.Nat as Nat
 use Rattle.irr_algebra.specs.Fin.{Fin, to_nat}
@@ -24,14 +26,16 @@ use Rattle.irr_rep.proofs.MatrixForms.{order_of_matrix}
 use Rattle.irr_rep.proofs.TraceRoots.{trace-IsRootSum}
 use Rattle.irr_real.specs.Families.{IsFamilyOf, IsSmallFamily}
 
-module _ {X : Type 0} {V : Ghosts X} (M : ℕ) {h d : ℕ} (D : Fin h → Matrix (numbers M) d d) (f : Family X V) (is : IsFamilyOf M D f)
+module _ {X : Type 0} {V : Ghosts X} (M : ℕ) {h d : ℕ} (D : Fin h → Matrix (numbers M) d d) (f : Family X V)
+    (is : IsFamilyOf M D f)
     (place : ℕ) (m : Mat X V) (at : m ≡ get_or f.mats.items place m) (p : Fin h) (e : to_nat p ≡ place) where
   pub below : place < length f.mats.items
   below = subst (λ n. n < length f.mats.items) e (subst (λ n. to_nat p < n) (sym is.shape.count) (to_nat-lt p))
 
   pub trace_fits : TraceFits (first_order V.order_of m.entries.items)
       (matrix_of V.value (first_order V.order_of m.entries.items) m.rows m.rows m.entries.items)
-  trace_fits = item-trace_fits M d f.mats.items place m below at is.shape p e (subst (TraceFits M) (sym (is.matrices p)) (is.fits p))
+  trace_fits = item-trace_fits M d f.mats.items place m below at is.shape p e
+      (subst (TraceFits M) (sym (is.matrices p)) (is.fits p))
 
   pub trace_value : (x : X)
       → V.value (first_order V.order_of m.entries.items) x
@@ -49,31 +53,49 @@ item_of : {A : Type 0} (xs : List A) (k : ℕ) → k < length xs → (x : A) × 
 item_of [] k l = absurd (omega arith)
 item_of (y ∷ ys) k l = (get_or (y ∷ ys) k y, sym (get_or_default (y ∷ ys) k (get_or (y ∷ ys) k y) y l))
 
-module _ {X : Type 0} {V : Ghosts X} {h : ℕ} (T : PhaseTable h) (M : ℕ) (f : Family X V) (is : IsSmallFamily T M f) where
-  pub admitted : (P : ℕ → Type 0) → ((x : X) → P (V.order_of x)) → P M
-  admitted P a =
-      let p = T.start in
-      let l = subst (λ n. to_nat p < n) (sym is.family.shape.count) (to_nat-lt p) in
-      let m = item_of f.mats.items (to_nat p) l in
-      admitted_at M is.small.at f is.family (to_nat p) m.0 m.1 p refl P a
+module _ {X : Type 0} {V : Ghosts X} {h : ℕ} (T : PhaseTable h) (M : ℕ) (f : Family X V) (is : IsSmallFamily T M f)
+  where
+    pub admitted : (P : ℕ → Type 0) → ((x : X) → P (V.order_of x)) → P M
+    admitted P a =
+        let p = T.start in
+        let l = subst (λ n. to_nat p < n) (sym is.family.shape.count) (to_nat-lt p) in
+        let m = item_of f.mats.items (to_nat p) l in
+        admitted_at M is.small.at f is.family (to_nat p) m.0 m.1 p refl P a
 
-  pub place_at : (place : ℕ) → place < h → (p : Fin h) × (to_nat p ≡ place)
-  place_at place l = (from_nat h place l, to_nat-from_nat h place l)
+    pub place_at : (place : ℕ) → place < h → (p : Fin h) × (to_nat p ≡ place)
+    place_at place l = (from_nat h place l, to_nat-from_nat h place l)
 
-  pub same_place : {g d : ℕ} (D : Fin g → Matrix (numbers M) d d) → IsFamilyOf M D f → (place : ℕ) → place < h → (p : Fin g) × (to_nat p ≡ place)
-  same_place {g} D other place l =
-      let m = subst (λ n. place < n) (sym is.family.shape.count ∙ other.shape.count) l in (from_nat g place m, to_nat-from_nat g place m)
+    pub same_place : {g d : ℕ} (D : Fin g → Matrix (numbers M) d d) → IsFamilyOf M D f → (place : ℕ) → place < h
+        → (p : Fin g) × (to_nat p ≡ place)
+    same_place {g} D other place l =
+        let m = subst (λ n. place < n) (sym is.family.shape.count ∙ other.shape.count) l in
+        (from_nat g place m, to_nat-from_nat g place m)
 
-  pub trace_few : 0 < M → (p : Fin h) → IsRootSum M 48 1 (trace (is.small.at p))
-  trace_few positive p = IsRootSum-more M 48 is.family.few (trace-IsRootSum M positive T is.divides is.small p)
+    module _ (place : ℕ) (l : place < h) (m : Mat X V) (at : m ≡ get_or f.mats.items place m) where
+      pub item_fits : TraceFits (first_order V.order_of m.entries.items)
+          (matrix_of V.value (first_order V.order_of m.entries.items) m.rows m.rows m.entries.items)
+      item_fits = let p = place_at place l in trace_fits M is.small.at f is.family place m at p.0 p.1
 
-pub turned_few : (n e : ℕ) (x y z : Number n) → x ≡ root_power n e → IsRootSum n 48 1 y → z ≡ (numbers n).mul x y → IsRootSum n 48 1 z
+      pub item_few : 0 < M → (x : X)
+          → V.value (first_order V.order_of m.entries.items) x
+          ≡ trace (matrix_of V.value (first_order V.order_of m.entries.items) m.rows m.rows m.entries.items)
+          → IsRootSum M 48 1 (V.value M x)
+      item_few positive x v = let p = place_at place l in
+          subst (IsRootSum M 48 1) (sym (trace_value M is.small.at f is.family place m at p.0 p.1 x v))
+          (IsRootSum-more M 48 is.family.few (trace-IsRootSum M positive T is.divides is.small p.0))
+
+pub root_few : (n e : ℕ) (x : Number n) → x ≡ root_power n e → IsRootSum n 1 1 x
+root_few n e x is = subst (IsRootSum n 1 1) (sym is) (IsRootSum-root n e)
+
+pub turned_few : (n e : ℕ) (x y z : Number n) → x ≡ root_power n e → IsRootSum n 48 1 y → z ≡ (numbers n).mul x y
+    → IsRootSum n 48 1 z
 turned_few n e x y z first second product = subst (IsRootSum n 48 1) (sym product)
-    (IsRootSum-mul n (subst (IsRootSum n 1 1) (sym first) (IsRootSum-root n e)) second)
+    (IsRootSum-mul n (root_few n e x first) second)
 
 pub turn_room : (n : ℕ) → n ≤ 12000 → 1 * n * (48 * n) ≤ 2 ^ 100
 turn_room n l =
-    let a : 1 * n * (48 * n) ≤ 1 * 12000 * (48 * 12000) = Nat.mul-le-mul (Nat.mul-le-mul_left 1 l) (Nat.mul-le-mul_left 48 l) in
+    let a : 1 * n * (48 * n) ≤ 1 * 12000 * (48 * 12000) = Nat.mul-le-mul (Nat.mul-le-mul_left 1 l)
+    (Nat.mul-le-mul_left 48 l) in
     let b : 1 * 12000 * (48 * 12000) ≤ 2 ^ 100 = omega arith in
     Nat.le_trans a b
 

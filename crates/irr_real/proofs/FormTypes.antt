@@ -18,7 +18,8 @@ use Rattle.irr_forms.specs.Form.{FormType, type_integer, type_number}
 use Rattle.irr_forms.specs.Form.FormType.{symmetric, skew, none}
 use Rattle.irr_forms.proofs.FullTypes.{type_number_inj}
 
-pub whole_value : (n h : ℕ) (z : ℤ) (x y : Number n) → (numbers n).mul (whole (numbers n) 1) x ≡ (numbers n).mul (integer (numbers n) z) y
+pub whole_value : (n h : ℕ) (z : ℤ) (x y : Number n) → (numbers n).mul (whole (numbers n) 1) x
+    ≡ (numbers n).mul (integer (numbers n) z) y
     → y ≡ (numbers n).one → z ≡ pos h → x ≡ whole (numbers n) h
 whole_value n h z x y e one number =
     sym (ap (λ u. (numbers n).mul u x) (whole-one (numbers n)) ∙ one-mul (numbers n) x) ∙ e
@@ -53,14 +54,18 @@ sum_zero R c u e = again R c u ∙ ap (λ x. R.add x (R.mul u (R.neg R.one))) e 
 module _ (n : ℕ) (positive : 0 < n) (h : ℕ) (some : 0 < h) (c u : Number n) (is : u ≡ whole (numbers n) h)
     (x : FormType) (e : c ≡ (numbers n).mul (whole (numbers n) h) (type_number (numbers n) x)) where
   type_is : (y : FormType) → c ≡ (numbers n).mul (whole (numbers n) h) (type_number (numbers n) y) → x ≡ y
-  type_is y f = type_number_inj (number_field n positive) x y (mul_cancel (number_field n positive) (whole (numbers n) h)
-      (type_number (numbers n) x) (type_number (numbers n) y) (whole-ne-zero (number_field n positive) h some) (sym e ∙ f))
+  type_is y f = type_number_inj (number_field n positive) x y
+      (mul_cancel (number_field n positive) (whole (numbers n) h)
+      (type_number (numbers n) x) (type_number (numbers n) y) (whole-ne-zero (number_field n positive) h some)
+      (sym e ∙ f))
 
   symmetric_sum : (numbers n).add c ((numbers n).neg u) ≡ (numbers n).zero → x ≡ symmetric
-  symmetric_sum z = type_is symmetric (difference_zero (numbers n) c u z ∙ is ∙ sym ((numbers n).mul-one (whole (numbers n) h)))
+  symmetric_sum z = type_is symmetric (difference_zero (numbers n) c u z ∙ is
+      ∙ sym ((numbers n).mul-one (whole (numbers n) h)))
 
   skew_sum : (numbers n).add c u ≡ (numbers n).zero → x ≡ skew
-  skew_sum z = type_is skew (sum_zero (numbers n) c u z ∙ ap (λ w. (numbers n).mul w ((numbers n).neg (numbers n).one)) is)
+  skew_sum z = type_is skew (sum_zero (numbers n) c u z ∙ ap
+      (λ w. (numbers n).mul w ((numbers n).neg (numbers n).one)) is)
 
   pub minus_is : (numbers n).add c ((numbers n).neg u) ≡ (numbers n).zero → pos 1 ≡ type_integer x
   minus_is z = ap type_integer (sym (symmetric_sum z))
@@ -68,7 +73,8 @@ module _ (n : ℕ) (positive : 0 < n) (h : ℕ) (some : 0 < h) (c u : Number n) 
   pub plus_is : (numbers n).add c u ≡ (numbers n).zero → negsuc 0 ≡ type_integer x
   plus_is z = ap type_integer (sym (skew_sum z))
 
-pub other_is : (n h : ℕ) (c u : Number n) → u ≡ whole (numbers n) h → ((numbers n).add c ((numbers n).neg u) ≡ (numbers n).zero → ⊥)
+pub other_is : (n h : ℕ) (c u : Number n) → u ≡ whole (numbers n) h
+    → ((numbers n).add c ((numbers n).neg u) ≡ (numbers n).zero → ⊥)
     → ((numbers n).add c u ≡ (numbers n).zero → ⊥)
     → (x : FormType) → c ≡ (numbers n).mul (whole (numbers n) h) (type_number (numbers n) x) → pos 0 ≡ type_integer x
 other_is n h c u is f g symmetric e = absurd (f (ap (λ w. (numbers n).add w ((numbers n).neg u))

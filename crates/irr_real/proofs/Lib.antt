@@ -5,3 +5,4 @@ pub mod FamilyTraces
 pub mod TermSums
 pub mod FormTypes
 pub mod StarSums
+pub mod PowerMatrices

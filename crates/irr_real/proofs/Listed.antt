@@ -2,7 +2,8 @@
 --   few_listed              an increasing list of numbers below n is not longer than n
 --   reversing_at            an operation with a listed number carries k to -k
 --   reversing_numbering     the operations that carry k to -k, by their numbers, are a numbering
-use Rattle.std.proofs.Common.{◌≡◌, sym, ◌∙◌, ap, subst, subst₂, refl, ℕ, zero, suc, ◌<◌, ◌≤◌, List, length, get_or, slice_index, Contains, arith}
+use Rattle.std.proofs.Common.{◌≡◌, sym, ◌∙◌, ap, subst, subst₂, refl, ℕ, zero, suc, ◌<◌, ◌≤◌, List, length, get_or}
+use Rattle.std.proofs.Common.{slice_index, Contains, arith}
 use Rattle.std.proofs.lemmas.List.{get_or_default}
 use Rattle.std.proofs.lemmas.List.Elements.{Contains-get_or}
 use Rattle.irr_algebra.specs.Fin.{Fin, to_nat}
@@ -22,7 +23,8 @@ use Rattle.irr_little.proofs.Spaces.{canonical_at, numbering_of}
 use Rattle.irr_reality.specs.Reality.{AreReversing, IsReversing}
 use Rattle.irr_real.specs.Places.{AreReversingPlaces}
 
-increasing_above : (xs : List ℕ) → ((a b : ℕ) → a < b → b < length xs → slice_index xs a < slice_index xs b) → (a : ℕ) → a < length xs
+increasing_above : (xs : List ℕ) → ((a b : ℕ) → a < b → b < length xs → slice_index xs a < slice_index xs b) → (a : ℕ)
+    → a < length xs
     → a ≤ slice_index xs a
 increasing_above xs rising zero l = omega arith
 increasing_above xs rising (suc a) l =
@@ -65,12 +67,17 @@ module _ (group : Group) (k : WaveVector) (xs : List ℕ) (places : AreReversing
   place-operation i = ap (λ n. operation (get_or group.ops.items n d)) (place-number i)
 
   pub reversing_at : (p : ℕ) → Contains xs p → IsReversing G k (operation (get_or group.ops.items p d))
-  reversing_at p c = record { member = (canonical_at group d p (places.below p c)).member; reverses = places.holds p c d }
+  reversing_at p c = record {
+    member = (canonical_at group d p (places.below p c)).member;
+    reverses = places.holds p c
+        d;
+  }
 
   found : (g : Operation) → IsReversing G k g → (p : Fin (length group.ops.items)) × (numbered group.ops.items d p ≡ g)
       → (i : Fin (length xs)) × (made i ≡ g)
   found g m t = at (places.all (to_nat t.0) (to_nat-lt t.0) (λ f.
-      subst (λ (x : Op). AreEquivalent G (turned k (operation x)) (null ⊖ k)) (get_or_default group.ops.items (to_nat t.0) d f (to_nat-lt t.0))
+      subst (λ (x : Op). AreEquivalent G (turned k (operation x)) (null ⊖ k))
+      (get_or_default group.ops.items (to_nat t.0) d f (to_nat-lt t.0))
       (subst (λ (x : Operation). AreEquivalent G (turned k x) (null ⊖ k)) (sym t.1) m.reverses)))
     where
       at : Contains xs (to_nat t.0) → (i : Fin (length xs)) × (made i ≡ g)
@@ -85,7 +92,9 @@ module _ (group : Group) (k : WaveVector) (xs : List ℕ) (places : AreReversing
     canonical = λ i. canonical_at group d (slice_index xs (to_nat i)) (inside i);
     member = λ i. reversing_at (slice_index xs (to_nat i)) (number_in i);
     all = λ g c m. found g m ((numbering_of group d).all g c tt);
-    ordered = λ i j l. subst₂ (λ (f g : Operation). IsNumberedBefore f.rotation g.rotation) (place-operation i) (place-operation j)
-        ((numbering_of group d).ordered (place i) (place j) (subst₂ (λ a b. a < b) (sym (place-number i)) (sym (place-number j))
+    ordered = λ i j l. subst₂ (λ (f g : Operation). IsNumberedBefore f.rotation g.rotation) (place-operation i)
+        (place-operation j)
+        ((numbering_of group d).ordered (place i) (place j) (subst₂ (λ a b. a < b) (sym (place-number i))
+        (sym (place-number j))
         (places.increasing (to_nat i) (to_nat j) l (to_nat-lt j))));
   }

@@ -35,7 +35,8 @@ use Rattle.irr_reality.proofs.Opposites.{reversing_twice}
 use Rattle.irr_real.specs.Places.{IsReversingPlace}
 use Rattle.irr_real.specs.Squares.{IsSquareAt}
 
-module _ (group : Group) (k : WaveVector) (t : Twisted) (table : IsLittleTable group k (operation_places t) (phase_table t))
+module _ (group : Group) (k : WaveVector) (t : Twisted) (table : IsLittleTable group k (operation_places t)
+    (phase_table t))
     (p : ℕ) (below : p < length group.ops.items) (reverses : IsReversingPlace group k p)
     (q : ℕ) (v : Vector) (product : IsProduct group p p q v) where
   abbrev G : Operation → Type 0
@@ -61,7 +62,8 @@ module _ (group : Group) (k : WaveVector) (t : Twisted) (table : IsLittleTable g
 
   square_translation : IsTranslation G v
   square_translation = product_translation G (space_group group).is_group (at some_op p) (at some_op p) (at some_op q) v
-      (reversing some_op).member (reversing some_op).member (canonical_at group some_op q product.below).member (product.is some_op)
+      (reversing some_op).member (reversing some_op).member (canonical_at group some_op q product.below).member
+      (product.is some_op)
 
   pub turns_over : (n : ℕ) → (phase_table t).order ∣ n → IsWhole (rationals.mul (integer rationals (pos n)) (dot k v))
   turns_over n divides =
@@ -76,7 +78,8 @@ module _ (group : Group) (k : WaveVector) (t : Twisted) (table : IsLittleTable g
       (subst IsWhole (integer-pos rationals c.0) (whole-integer (pos c.0)))
       (turns_whole G k N (table.table some_op).is_order v square_translation))
 
-  pub square_is : (n i x : ℕ) → i < place_count t → slice_index (operation_places t) i ≡ q → IsPhase (sign_of group.phase) n k v x
+  pub square_is : (n i x : ℕ) → i < place_count t → slice_index (operation_places t) i ≡ q
+      → IsPhase (sign_of group.phase) n k v x
       → IsSquareAt group k t n p i x
   square_is n i x l e phase = record {
     vector = v;

@@ -2,7 +2,8 @@
 --   same_number, operation_same     the operations of the little group have one order, so one number each
 --   square_sum_is                   the sum is that of the theory
 --   type_is, type_over_each         so it says the type
-use Rattle.std.proofs.Common.{◌≡◌, sym, ◌∙◌, ap, subst, refl, ℕ, ℤ, zero, suc, ◌<◌, ◌≤◌, length, get_or, slice_index, arith}
+use Rattle.std.proofs.Common.{◌≡◌, sym, ◌∙◌, ap, subst, refl, ℕ, ℤ, zero, suc, ◌<◌, ◌≤◌, length, get_or, slice_index}
+use Rattle.std.proofs.Common.{arith}
 use Rattle.std.specs.Int.{◌∣◌}
 use Rattle.irr_algebra.specs.Action.{IsSimple}
 use Rattle.irr_algebra.specs.Fin.{Fin, to_nat}
@@ -44,23 +45,26 @@ use Rattle.irr_real.specs.Squares.{IsReversalSum, IsSquareTrace}
 use Rattle.irr_real.proofs.Listed.{reversing_numbering}
 
 -- a rising map of numbers
-module _ (a n : ℕ) (f : Fin a → Fin n) (rising : (i j : Fin a) → to_nat i < to_nat j → to_nat (f i) < to_nat (f j)) where
-  above : (k : ℕ) (l : k < a) → k ≤ to_nat (f (from_nat a k l))
-  above zero l = omega arith
-  above (suc k) l =
-      let m : k < a = omega (arith, l) in
-      let x = to_nat-from_nat a k m in
-      let y = to_nat-from_nat a (suc k) l in
-      let up = rising (from_nat a k m) (from_nat a (suc k) l) (omega (arith, x, y)) in
-      let before = above k m in
-      omega (arith, up, before)
+module _ (a n : ℕ) (f : Fin a → Fin n) (rising : (i j : Fin a) → to_nat i < to_nat j → to_nat (f i) < to_nat (f j))
+  where
+    above : (k : ℕ) (l : k < a) → k ≤ to_nat (f (from_nat a k l))
+    above zero l = omega arith
+    above (suc k) l =
+        let m : k < a = omega (arith, l) in
+        let x = to_nat-from_nat a k m in
+        let y = to_nat-from_nat a (suc k) l in
+        let up = rising (from_nat a k m) (from_nat a (suc k) l) (omega (arith, x, y)) in
+        let before = above k m in
+        omega (arith, up, before)
 
-  at_least : (i : Fin a) → to_nat i ≤ to_nat (f i)
-  at_least i =
-      let l = to_nat-lt i in
-      subst (λ j. to_nat i ≤ to_nat (f j)) (to_nat_inj (from_nat a (to_nat i) l) i (to_nat-from_nat a (to_nat i) l)) (above (to_nat i) l)
+    at_least : (i : Fin a) → to_nat i ≤ to_nat (f i)
+    at_least i =
+        let l = to_nat-lt i in
+        subst (λ j. to_nat i ≤ to_nat (f j)) (to_nat_inj (from_nat a (to_nat i) l) i (to_nat-from_nat a (to_nat i) l))
+        (above (to_nat i) l)
 
-module _ (group : Group) (k : WaveVector) (t : Twisted) (table : IsLittleTable group k (operation_places t) (phase_table t))
+module _ (group : Group) (k : WaveVector) (t : Twisted) (table : IsLittleTable group k (operation_places t)
+    (phase_table t))
     (S : Star (sign_of group.phase) (stands_for group) k) where
   some_op : Op
   some_op = first_of group.ops.items (form_of group).nonempty
@@ -94,12 +98,15 @@ module _ (group : Group) (k : WaveVector) (t : Twisted) (table : IsLittleTable g
   same_number : (p : Fin S.places) → to_nat (place_in G law chosen S own p) ≡ to_nat p
   same_number p =
       let a = at_least S.places (place_count t) (place_in G law chosen S own) (increasing G law chosen S own) p in
-      let b = at_least (place_count t) S.places (place_in G law chosen own S) (increasing G law chosen own S) (place_in G law chosen S own p) in
+      let b = at_least (place_count t) S.places (place_in G law chosen own S) (increasing G law chosen own S)
+      (place_in G law chosen S own p) in
       let e = ap to_nat (there_back G law chosen S own p) in
       omega (arith, a, b, e)
 
-  operation_same : (p : Fin S.places) → operation (get_or group.ops.items (slice_index (operation_places t) (to_nat p)) some_op) ≡ S.operation p
-  operation_same p = ap (λ n. operation (get_or group.ops.items (slice_index (operation_places t) n) some_op)) (sym (same_number p))
+  operation_same : (p : Fin S.places) → operation (get_or group.ops.items
+      (slice_index (operation_places t) (to_nat p)) some_op) ≡ S.operation p
+  operation_same p = ap (λ n. operation (get_or group.ops.items (slice_index (operation_places t) n) some_op))
+      (sym (same_number p))
       ∙ place_in-is G law chosen S own p
 
   module _ (M : ℕ) (v : S.table.order ∣ M) {d : ℕ} (D : Representation (phases_over S.table M v) d) (c : Number M)
@@ -110,7 +117,8 @@ module _ (group : Group) (k : WaveVector) (t : Twisted) (table : IsLittleTable g
     numbering : AreReversing G k (listed_operations group (length made.places) made.places some_op)
     numbering = reversing_numbering group k made.places made.reversing some_op
 
-    term_at : (i : Fin (length made.places)) → IsSquareTrace group k t M D.at (slice_index made.places (to_nat i)) (made.term (to_nat i))
+    term_at : (i : Fin (length made.places)) → IsSquareTrace group k t M D.at (slice_index made.places (to_nat i))
+        (made.term (to_nat i))
     term_at i = made.each (to_nat i) (to_nat-lt i)
 
     square_sum_is : IsSquareSum S M v D (listed_operations group (length made.places) made.places some_op) c
@@ -128,11 +136,13 @@ module _ (group : Group) (k : WaveVector) (t : Twisted) (table : IsLittleTable g
       is_sum = made.is_sum ∙ sym (sum-to_nat (numbers M) (length made.places) made.term)
           ∙ sum-ext (numbers M) (length made.places) (λ i. made.term (to_nat i))
           (λ i. trace (scale (numbers M) (root_power M (term_at i).exponent) (D.at (term_at i).place)))
-          (λ i. (term_at i).is ∙ sym (trace-scale (numbers M) (root_power M (term_at i).exponent) (D.at (term_at i).place)));
+          (λ i. (term_at i).is ∙ sym (trace-scale (numbers M) (root_power M (term_at i).exponent)
+          (D.at (term_at i).place)));
     }
 
     module _ (positive : 0 < M) (simple : IsSimple D.at) (r : ℤ)
-        (says : (x : FormType) → c ≡ (numbers M).mul (whole (numbers M) S.places) (type_number (numbers M) x) → r ≡ type_integer x) where
+        (says : (x : FormType) → c ≡ (numbers M).mul (whole (numbers M) S.places) (type_number (numbers M) x) → r
+        ≡ type_integer x) where
       pub type_is : IsTypeOf S M v D r
       type_is =
           let m = length made.places in
@@ -143,14 +153,17 @@ module _ (group : Group) (k : WaveVector) (t : Twisted) (table : IsLittleTable g
           record {
             form_type = x.0;
             number = says x.0 e;
-            has_type = λ B is. type_of_sum G law chosen S M positive v D simple B is m ops numbering c square_sum_is x.0 e;
+            has_type = λ B is. type_of_sum G law chosen S M positive v D simple B is m ops numbering c square_sum_is
+                x.0 e;
             only = λ B is y h. type_of_full_unique G law chosen S M positive v D simple B is m ops numbering y x.0 h
                 (type_of_sum G law chosen S M positive v D simple B is m ops numbering c square_sum_is x.0 e);
           }
 
-  module _ (M : ℕ) (positive : 0 < M) (v : S.table.order ∣ M) {d : ℕ} (D : Representation (phases_at S.table) d) (simple : IsSimple D.at) (c : Number M)
+  module _ (M : ℕ) (positive : 0 < M) (v : S.table.order ∣ M) {d : ℕ} (D : Representation (phases_at S.table) d)
+      (simple : IsSimple D.at) (c : Number M)
       (made : IsReversalSum group k t M (over S.table M v D).at c) (r : ℤ)
-      (says : (x : FormType) → c ≡ (numbers M).mul (whole (numbers M) S.places) (type_number (numbers M) x) → r ≡ type_integer x) where
+      (says : (x : FormType) → c ≡ (numbers M).mul (whole (numbers M) S.places) (type_number (numbers M) x) → r
+      ≡ type_integer x) where
     simple_over : IsSimple (over S.table M v D).at
     simple_over = dimension-map_family (number_field S.table.order S.table.order_positive) (number_field M positive)
         (lift S.table.order M S.table.order_positive v) D D simple
@@ -162,6 +175,7 @@ module _ (group : Group) (k : WaveVector) (t : Twisted) (table : IsLittleTable g
           form_type = is.form_type;
           number = is.number;
           has_type = λ some K large w u A of. type_over G law chosen S M K some large v w u D simple A of
-              (listed_operations group (length made.places) made.places some_op) (numbering M v (over S.table M v D) c made) is.form_type
+              (listed_operations group (length made.places) made.places some_op)
+              (numbering M v (over S.table M v D) c made) is.form_type
               (is.has_type A of);
         }

@@ -2,7 +2,8 @@
 --   TermsSoFar                the first i terms add up to c
 --   terms_none, terms_more    none, and one more
 --   terms_all                 all of them
-use Rattle.std.proofs.Common.{◌≡◌, sym, ◌∙◌, ap₂, subst, refl, ℕ, zero, suc, ◌+◌, ◌<◌, ◌≤◌, ◌⊎◌, inl, inr, List, length, slice_index, arith}
+use Rattle.std.proofs.Common.{◌≡◌, sym, ◌∙◌, ap₂, subst, refl, ℕ, zero, suc, ◌+◌, ◌<◌, ◌≤◌, ◌⊎◌, inl, inr, List}
+use Rattle.std.proofs.Common.{length, slice_index, arith}
 use Rattle.std.proofs.lemmas.Bool.{cases_lt}
 use Rattle.irr_algebra.specs.Ring.{Ring}
 use Rattle.irr_algebra.specs.Fin.{Fin}
@@ -16,10 +17,12 @@ use Rattle.irr_close.specs.declared.group.Group.{Group}
 use Rattle.irr_real.specs.Places.{AreReversingPlaces}
 use Rattle.irr_real.specs.Squares.{IsReversalSum, IsSquareTrace}
 
-sum_below-ext : (R : Ring) (n : ℕ) (f g : ℕ → R.Carrier) → ((j : ℕ) → j < n → f j ≡ g j) → sum_below R n f ≡ sum_below R n g
+sum_below-ext : (R : Ring) (n : ℕ) (f g : ℕ → R.Carrier) → ((j : ℕ) → j < n → f j ≡ g j) → sum_below R n f
+    ≡ sum_below R n g
 unfolding sum_below
 sum_below-ext R zero f g same = refl
-sum_below-ext R (suc n) f g same = ap₂ R.add (sum_below-ext R n f g (λ j l. same j (omega (arith, l)))) (same n (omega arith))
+sum_below-ext R (suc n) f g same = ap₂ R.add (sum_below-ext R n f g (λ j l. same j (omega (arith, l))))
+    (same n (omega arith))
 
 -- the first k are those of f, then x
 choose : {A : Type 0} (k j : ℕ) → A → A → (j < k) ⊎ (k ≤ j) → A
@@ -46,9 +49,14 @@ extended-last f k x = chosen (cases_lt k k)
     chosen (inr m) = refl
 
 below_or_last : (P : ℕ → Type 0) (i k : ℕ) → i < k + 1 → (i < k → P i) → P k → P i
-below_or_last P i k l before last = elim (cases_lt i k) [ inl m ↦ before m | inr m ↦ (let e : k ≡ i = omega (arith, l, m) in subst P e last) ]
+below_or_last P i k l before last = elim (cases_lt i k) [
+  | inl m ↦ before m
+  | inr m ↦
+      (let e : k ≡ i = omega (arith, l, m) in subst P e last)
+]
 
-module _ (group : Group) (k : WaveVector) (t : Twisted) (M : ℕ) {h d : ℕ} (D : Fin h → Matrix (numbers M) d d) (xs : List ℕ) where
+module _ (group : Group) (k : WaveVector) (t : Twisted) (M : ℕ) {h d : ℕ} (D : Fin h → Matrix (numbers M) d d)
+    (xs : List ℕ) where
   pub record TermsSoFar (i : ℕ) (c : Number M) : Type 0 where
     pub term : ℕ → Number M
     pub each : (j : ℕ) → j < i → IsSquareTrace group k t M D (slice_index xs j) (term j)
@@ -63,14 +71,17 @@ module _ (group : Group) (k : WaveVector) (t : Twisted) (M : ℕ) {h d : ℕ} (D
   terms_more i c x after so here added = record {
     term = extended so.term i x;
     each = λ j l. below_or_last (λ n. IsSquareTrace group k t M D (slice_index xs n) (extended so.term i x n)) j i l
-        (λ m. subst (IsSquareTrace group k t M D (slice_index xs j)) (sym (extended-before so.term i x j m)) (so.each j m))
+        (λ m. subst (IsSquareTrace group k t M D (slice_index xs j)) (sym (extended-before so.term i x j m))
+        (so.each j m))
         (subst (IsSquareTrace group k t M D (slice_index xs i)) (sym (extended-last so.term i x)) here);
     is_sum = added
         ∙ ap₂ (numbers M).add
-        (so.is_sum ∙ sum_below-ext (numbers M) i so.term (extended so.term i x) (λ j l. sym (extended-before so.term i x j l)))
+        (so.is_sum ∙ sum_below-ext (numbers M) i so.term (extended so.term i x)
+        (λ j l. sym (extended-before so.term i x j l)))
         (sym (extended-last so.term i x))
         ∙ sym (sum_below-add_one (numbers M) i (extended so.term i x));
   }
 
-  pub terms_all : (c : Number M) → AreReversingPlaces group k xs → TermsSoFar (length xs) c → IsReversalSum group k t M D c
+  pub terms_all : (c : Number M) → AreReversingPlaces group k xs → TermsSoFar (length xs) c
+      → IsReversalSum group k t M D c
   terms_all c are so = record { places = xs; reversing = are; term = so.term; each = so.each; is_sum = so.is_sum }

@@ -12,7 +12,8 @@ use Rattle.irr_close.specs.declared.group.Group.{Group}
 use Rattle.irr_little.specs.Places.{AreListed}
 
 abbrev pub IsReversingPlace : Group → WaveVector → ℕ → Type 0
-IsReversingPlace group k p = HoldsAt (λ g. AreEquivalent (stands_for group) (turned k (operation g)) (null ⊖ k)) group.ops.items p
+IsReversingPlace group k p = HoldsAt (λ g. AreEquivalent (stands_for group) (turned k (operation g)) (null ⊖ k))
+    group.ops.items p
 
 abbrev pub AreReversingPlaces : Group → WaveVector → List ℕ → Type 0
 AreReversingPlaces group k xs = AreListed (IsReversingPlace group k) (length group.ops.items) xs

@@ -1,6 +1,7 @@
--- The squares of operations g that carry k to -k, and the sum of their traces (Bradley and Cracknell, sections 4.6 and 7.6).
---   IsSquareAt group k t M p q x      for the canonical operation g with the number p: g g = (1|v) g_q for the operation g_q at the place q
---                                     of t, and z^x = exp(2 pi i s k.v), a number of order M
+-- The squares of operations g that carry k to -k, and the sum of their traces (Bradley and Cracknell, sections 4.6
+-- and 7.6).
+--   IsSquareAt group k t M p q x      for the canonical operation g with the number p: g g = (1|v) g_q for the operation
+--                                     g_q at the place q of t, and z^x = exp(2 pi i s k.v), a number of order M
 --   IsSquareTrace group k t M D p c   c is tr D(g g) = z^x tr D(q)
 --   IsReversalSum group k t M D c     c is the sum of these over all canonical operations that carry k to -k
 use Rattle.std.specs.Prelude.{ℕ, ◌≡◌, ◌<◌, List, length, slice_index, slice_index_or}
@@ -21,11 +22,13 @@ use Rattle.irr_real.specs.Places.{AreReversingPlaces}
 pub record IsSquareAt (group : Group) (k : WaveVector) (t : Twisted) (M p q x : ℕ) : Type 0 where
   pub vector : Vector
   pub below : q < place_count t
-  pub is_product : (d : Op) → operation (slice_index_or group.ops.items p d) ⊙ operation (slice_index_or group.ops.items p d)
+  pub is_product : (d : Op) → operation (slice_index_or group.ops.items p d) ⊙ operation
+      (slice_index_or group.ops.items p d)
       ≡ translation vector ⊙ operation (slice_index_or group.ops.items (slice_index (operation_places t) q) d)
   pub is_phase : IsPhase (sign_of group.phase) M k vector x
 
-pub record IsSquareTrace (group : Group) (k : WaveVector) (t : Twisted) (M : ℕ) {h d : ℕ} (D : Fin h → Matrix (numbers M) d d) (p : ℕ)
+pub record IsSquareTrace (group : Group) (k : WaveVector) (t : Twisted) (M : ℕ) {h d : ℕ}
+    (D : Fin h → Matrix (numbers M) d d) (p : ℕ)
     (c : Number M) : Type 0 where
   pub place : Fin h
   pub exponent : ℕ
@@ -33,7 +36,8 @@ pub record IsSquareTrace (group : Group) (k : WaveVector) (t : Twisted) (M : ℕ
   pub is : c ≡ (numbers M).mul (root_power M exponent) (trace (D place))
 
 -- places are the numbers of the operations
-pub record IsReversalSum (group : Group) (k : WaveVector) (t : Twisted) (M : ℕ) {h d : ℕ} (D : Fin h → Matrix (numbers M) d d) (c : Number M) : Type 0 where
+pub record IsReversalSum (group : Group) (k : WaveVector) (t : Twisted) (M : ℕ) {h d : ℕ}
+    (D : Fin h → Matrix (numbers M) d d) (c : Number M) : Type 0 where
   pub places : List ℕ
   pub reversing : AreReversingPlaces group k places
   pub term : ℕ → Number M

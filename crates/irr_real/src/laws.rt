@@ -6,7 +6,7 @@ ghost use Rattle.irr_algebra.specs.Pair.{times};
 ghost use Rattle.irr_number.specs.Number.{numbers};
 ghost use Rattle.irr_theory.specs.FactorSystem.{Representation};
 ghost use Rattle.irr_space.specs.Operation.{Operation, WaveVector};
-ghost use Rattle.irr_space.specs.PhaseTable.{phases_over};
+ghost use Rattle.irr_space.specs.PhaseTable.{PhaseTable, phases_over};
 ghost use Rattle.irr_seitz.specs.PhaseMeaning.{sign_of};
 ghost use Rattle.irr_rep.specs.Twisted.{operation_places, phase_table, place_count};
 ghost use Rattle.irr_rep.specs.declared.table.Twisted.{Twisted};
@@ -18,16 +18,18 @@ ghost use Rattle.irr_little.specs.declared.arms.Arm.{Arm};
 ghost use Rattle.irr_full.specs.Star.{Star};
 ghost use Rattle.irr_full.specs.Full.{IsFullOf};
 
-/// The arms of a star and the table of the little group give a star with this table.
+/// The arms of a star and the table of the little group, as a program lists them, give a star with this table. (The arm
+/// a is any one: it stands past the end of the list.)
 pub fn stars_of_tables()
     ensures { (group : Group) (k : WaveVector) (arms : List Arm) (t : Twisted) (a : Arm) → AreArms group k arms
         → IsLittleTable group k (operation_places t) (phase_table t)
-        → (U : Star (sign_of group.phase) (stands_for group) k) × (U.places ≡ place_count t) }
+        → (U : Star (sign_of group.phase) (stands_for group) k)
+        × (◌≡◌ {A = (h : ℕ) × PhaseTable h} (U.places, U.table) (place_count t, phase_table t)) }
 {}
 
 /// Each small representation has a full one.
 pub fn full_representations()
-    ensures { (group : Group) (k : WaveVector) (U : Star (sign_of group.phase) (stands_for group) k) (M : ℕ) → 0 < M → (v : U.table.order ∣ M)
-        (d : ℕ) (D : Representation (phases_over U.table M v) d)
+    ensures { (group : Group) (k : WaveVector) (U : Star (sign_of group.phase) (stands_for group) k)
+        (M : ℕ) → 0 < M → (v : U.table.order ∣ M) (d : ℕ) (D : Representation (phases_over U.table M v) d)
         → (A : Operation → Matrix (numbers M) (times U.arms d) (times U.arms d)) × IsFullOf U M v D A }
 {}

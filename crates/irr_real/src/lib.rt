@@ -11,3 +11,6 @@ mod waves;
 pub use irr_memory::Memory;
 pub use laws::{full_representations, stars_of_tables};
 pub use types::reality;
+
+#[cfg(test)]
+mod tests;

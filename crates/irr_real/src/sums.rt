@@ -33,7 +33,8 @@ fn square_trace<S: Scalar>(
     requires exponent { square.exponent < order.now.n }
     ensures order { IfOk result (λ x. S.order_of x ≡ order.now.n) }
     ensures few { let n = order.now.n in IfOk result (λ x. IsRootSum n 48 1 (S.value n x)) }
-    ensures trace { let n = order.now.n in (h d : ℕ) (D : Fin h → Matrix (numbers n) d d) → IsFamilyOf n D f.now → (i : Fin h) → to_nat i ≡ square.place
+    ensures trace { let n = order.now.n in (h d : ℕ) (D : Fin h → Matrix (numbers n) d d) → IsFamilyOf n D f.now
+        → (i : Fin h) → to_nat i ≡ square.place
         → IfOk result (λ x. S.value n x ≡ (numbers n).mul (root_power n square.exponent) (trace (D i))) }
 {
     let matrix = &f.mats[square.place as usize];

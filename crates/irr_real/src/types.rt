@@ -33,7 +33,8 @@ fn type_of_sum<S: Scalar>(alloc: Global, order: &Order, sum: &S, count: u32) -> 
     requires few { let n = order.now.n in IsRootSum n 2304 1 (S.value n sum.now) }
     requires positive { 0 < count }
     requires within { count ≤ 48 }
-    ensures { let n = order.now.n in (x : FormType) → S.value n sum.now ≡ (numbers n).mul (whole (numbers n) count) (type_number (numbers n) x)
+    ensures { let n = order.now.n in (x : FormType)
+        → S.value n sum.now ≡ (numbers n).mul (whole (numbers n) count) (type_number (numbers n) x)
         → IfOk result (λ r. r ≡ type_integer x) }
 {
     let one = S::one(alloc, order)?;
@@ -51,10 +52,10 @@ fn type_of_sum<S: Scalar>(alloc: Global, order: &Order, sum: &S, count: u32) -> 
 
 /// The type of the full representation of a small one over the whole group (Bradley and Cracknell, sections 4.6 and
 /// 7.6): 1 where it has an invariant symmetric form, -1 where it has an invariant antisymmetric one, and 0 where it has
-/// none. `t` is the table of the little group of k, and `f` a small representation of it of at most 48 rows, over an order
-/// that the order of t divides, with which only numbers intertwine it. It is found by Herring's sum of tr D(g g) over
-/// the canonical operations g = (R|v) with kR equivalent to -k, which is this number times the number of operations of the
-/// little group. The error is want of memory.
+/// none. `t` is the table of the little group of k, and `f` a small representation of it, of at most 48 rows and over an
+/// order that the order of t divides, with which only numbers intertwine it. It is found by Herring's sum of tr D(g g)
+/// over the canonical operations g = (R|v) with kR equivalent to -k, which is this number times the number of operations
+/// of the little group. The error is want of memory.
 pub fn reality<S: Scalar>(
     alloc: Global,
     group: &Group,
@@ -65,11 +66,11 @@ pub fn reality<S: Scalar>(
     requires limits { IsWithinLimits k.now }
     requires table { IsLittleTable group.now (wave_vector k.now) (operation_places t.now) (phase_table t.now) }
     requires family { (M : ℕ) × IsSmallFamily (phase_table t.now) M f.now }
-    ensures type_of { (U : Star (sign_of group.now.phase) (stands_for group.now) (wave_vector k.now)) (M : ℕ) (v : U.table.order ∣ M)
-        (d : ℕ) (D : Representation (phases_over U.table M v) d) → IsFamilyOf M D.at f.now → IsSimple D.at
+    ensures type_of { (U : Star (sign_of group.now.phase) (stands_for group.now) (wave_vector k.now))
+        (M : ℕ) (v : U.table.order ∣ M) (d : ℕ) (D : Representation (phases_over U.table M v) d) → IsFamilyOf M D.at f.now → IsSimple D.at
         → IfOk result (IsTypeOf U M v D) }
-    ensures every_order { (U : Star (sign_of group.now.phase) (stands_for group.now) (wave_vector k.now)) (M : ℕ) (v : U.table.order ∣ M)
-        (d : ℕ) (D : Representation (phases_at U.table) d) → IsFamilyOf M (over U.table M v D).at f.now → IsSimple D.at
+    ensures every_order { (U : Star (sign_of group.now.phase) (stands_for group.now) (wave_vector k.now))
+        (M : ℕ) (v : U.table.order ∣ M) (d : ℕ) (D : Representation (phases_at U.table) d) → IsFamilyOf M (over U.table M v D).at f.now → IsSimple D.at
         → IfOk result (IsTypeOverEach U M v D) }
 {
     let order = Order::new(alloc, f.mats[0].at(0, 0).order())?;

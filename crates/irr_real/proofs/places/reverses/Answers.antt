@@ -14,7 +14,8 @@ use Rattle.irr_real.proofs.Opposites.{carried_of_reverses, reverses_of_carried}
 use Rattle.irr_real.proofs.places.reverses.Goals as goal
 
 pub equivalent-requires-clause-centrings : goal.equivalent-requires-clause-centrings
-equivalent-requires-clause-centrings c = subst IsCentringList (sym c.centrings.ensures.list) (space_group c.args.group.now).centrings
+equivalent-requires-clause-centrings c = subst IsCentringList (sym c.centrings.ensures.list)
+    (space_group c.args.group.now).centrings
 
 pub returns : goal.returns
 returns c =
@@ -25,10 +26,12 @@ returns c =
       λ t d. reverses_of_carried (stands_for group) law (operation (get_or group.ops.items c.args.place d))
           (canonical_at group d c.args.place c.requires.place).member k w (c.image.ensures.carries d)
           ((same_reciprocal group (w ⊖ (null ⊖ k))).1
-          (subst₂ (λ cs (u : WaveVector). AreEquivalent (LatticeOf cs) w u) c.centrings.ensures.list c.opposite.ensures.opposite
+          (subst₂ (λ cs (u : WaveVector). AreEquivalent (LatticeOf cs) w u) c.centrings.ensures.list
+          c.opposite.ensures.opposite
           (c.equivalent.ensures.0 t))),
       λ h. let d = first_of group.ops.items (form_of group).nonempty in c.equivalent.ensures.1
-          (subst₂ (λ cs (u : WaveVector). AreEquivalent (LatticeOf cs) w u) (sym c.centrings.ensures.list) (sym c.opposite.ensures.opposite)
+          (subst₂ (λ cs (u : WaveVector). AreEquivalent (LatticeOf cs) w u) (sym c.centrings.ensures.list)
+          (sym c.opposite.ensures.opposite)
           ((same_reciprocal group (w ⊖ (null ⊖ k))).0
           (carried_of_reverses (stands_for group) law (operation (get_or group.ops.items c.args.place d))
           (canonical_at group d c.args.place c.requires.place).member k w (c.image.ensures.carries d) (h d)))),

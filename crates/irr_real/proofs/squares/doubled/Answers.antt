@@ -1,4 +1,5 @@
-use Rattle.std.proofs.Common.{◌≡◌, sym, ◌∙◌, ap, ap₂, subst, refl, ℕ, List, Bool, true, false, ◌<◌, length, get_or, IfSome, is_some}
+use Rattle.std.proofs.Common.{◌≡◌, sym, ◌∙◌, ap, ap₂, subst, refl, ℕ, List, Bool, true, false, ◌<◌, length, get_or}
+use Rattle.std.proofs.Common.{IfSome, is_some}
 use Rattle.std.proofs.lemmas.List.{get_or_default}
 use Rattle.std.specs.List.{HoldsAt}
 use Rattle.irr_algebra.specs.Matrix.{◌⊖◌}
@@ -25,72 +26,95 @@ in_length : (xs ys : List Op) → xs ≡ ys → (i : ℕ) → i < length ys → 
 in_length xs ys e i l = subst (λ (zs : List Op). i < length zs) (sym e) l
 
 pub compose-both-requires-clause-denominator : goal.compose-both-requires-clause-denominator
-compose-both-requires-clause-denominator c = λ m h. small_pair c.ops-ops.result.now c.args.group.now.centrings.items c.ops-ops.ensures.canonical
+compose-both-requires-clause-denominator c = λ m h. small_pair c.ops-ops.result.now c.args.group.now.centrings.items
+    c.ops-ops.ensures.canonical
     c.args.i c.index-ops-i.result
-    (in_length c.ops-ops.result.now c.args.group.now.ops.items c.ops-ops.ensures.list c.args.i c.requires) c.index-ops-i.is c.args.i
+    (in_length c.ops-ops.result.now c.args.group.now.ops.items c.ops-ops.ensures.list c.args.i c.requires)
+    c.index-ops-i.is c.args.i
     c.index-ops-i-2.result
-    (in_length c.ops-ops.result.now c.args.group.now.ops.items c.ops-ops.ensures.list c.args.i c.requires) c.index-ops-i-2.is m h
+    (in_length c.ops-ops.result.now c.args.group.now.ops.items c.ops-ops.ensures.list c.args.i c.requires)
+    c.index-ops-i-2.is m h
 
 pub compose-both-requires-clause-numerators : goal.compose-both-requires-clause-numerators
-compose-both-requires-clause-numerators c = numbers_at c.ops-ops.result.now c.args.group.now.centrings.items c.ops-ops.ensures.canonical c.args.i
+compose-both-requires-clause-numerators c = numbers_at c.ops-ops.result.now c.args.group.now.centrings.items
+    c.ops-ops.ensures.canonical c.args.i
     c.index-ops-i.result
-    (in_length c.ops-ops.result.now c.args.group.now.ops.items c.ops-ops.ensures.list c.args.i c.requires) c.index-ops-i.is
+    (in_length c.ops-ops.result.now c.args.group.now.ops.items c.ops-ops.ensures.list c.args.i c.requires)
+    c.index-ops-i.is
 
 pub compose-both-requires-clause-other_numerators : goal.compose-both-requires-clause-other_numerators
-compose-both-requires-clause-other_numerators c = numbers_at c.ops-ops.result.now c.args.group.now.centrings.items c.ops-ops.ensures.canonical
+compose-both-requires-clause-other_numerators c = numbers_at c.ops-ops.result.now c.args.group.now.centrings.items
+    c.ops-ops.ensures.canonical
     c.args.i c.index-ops-i-2.result
-    (in_length c.ops-ops.result.now c.args.group.now.ops.items c.ops-ops.ensures.list c.args.i c.requires) c.index-ops-i-2.is
+    (in_length c.ops-ops.result.now c.args.group.now.ops.items c.ops-ops.ensures.list c.args.i c.requires)
+    c.index-ops-i-2.is
 
 pub unwrap-op-requires : goal.unwrap-op-requires
-unwrap-op-requires c = some_of (is_some c.canonical.result) (λ e. c.canonical.ensures.none.0 e (operation c.compose-both.result)
+unwrap-op-requires c = some_of (is_some c.canonical.result) (λ e. c.canonical.ensures.none.0 e
+    (operation c.compose-both.result)
     (subst (stands_for c.args.group.now) (sym c.compose-both.ensures)
     ((space_group c.args.group.now).is_group.has_product (operation c.index-ops-i.result)
     (operation c.index-ops-i-2.result)
     (subst (λ (g : Op). stands_for c.args.group.now (operation g)) (sym
-    (in_list c.ops-ops.result.now c.args.group.now.ops.items c.ops-ops.ensures.list c.args.i c.index-ops-i.result c.index-ops-i.is))
+    (in_list c.ops-ops.result.now c.args.group.now.ops.items c.ops-ops.ensures.list c.args.i c.index-ops-i.result
+    c.index-ops-i.is))
     (canonical_at c.args.group.now c.index-ops-i.result c.args.i c.requires).member)
     (subst (λ (g : Op). stands_for c.args.group.now (operation g)) (sym
-    (in_list c.ops-ops.result.now c.args.group.now.ops.items c.ops-ops.ensures.list c.args.i c.index-ops-i-2.result c.index-ops-i-2.is))
+    (in_list c.ops-ops.result.now c.args.group.now.ops.items c.ops-ops.ensures.list c.args.i c.index-ops-i-2.result
+    c.index-ops-i-2.is))
     (canonical_at c.args.group.now c.index-ops-i-2.result c.args.i c.requires).member))) refl)
 
 pub difference-shift-requires : goal.difference-shift-requires
-difference-shift-requires c = fits_shift c.ops-ops.result.now c.args.group.now.centrings.items c.ops-ops.ensures.canonical c.args.i
+difference-shift-requires c = fits_shift c.ops-ops.result.now c.args.group.now.centrings.items
+    c.ops-ops.ensures.canonical c.args.i
     c.index-ops-i.result
-    (in_length c.ops-ops.result.now c.args.group.now.ops.items c.ops-ops.ensures.list c.args.i c.requires) c.index-ops-i.is c.args.i
+    (in_length c.ops-ops.result.now c.args.group.now.ops.items c.ops-ops.ensures.list c.args.i c.requires)
+    c.index-ops-i.is c.args.i
     c.index-ops-i-2.result
-    (in_length c.ops-ops.result.now c.args.group.now.ops.items c.ops-ops.ensures.list c.args.i c.requires) c.index-ops-i-2.is
+    (in_length c.ops-ops.result.now c.args.group.now.ops.items c.ops-ops.ensures.list c.args.i c.requires)
+    c.index-ops-i-2.is
     c.compose-both.result c.compose-both.ensures c.unwrap-op.result c.index-ops-place.result
     (in_length c.ops-ops.result.now c.args.group.now.ops.items c.ops-ops.ensures.list c.unwrap-op.result
-    (subst (λ r. IfSome r (λ k. k < length c.args.group.now.ops.items)) c.unwrap-op.ensures c.canonical.ensures.within)) c.index-ops-place.is
+    (subst (λ r. IfSome r (λ k. k < length c.args.group.now.ops.items)) c.unwrap-op.ensures
+    c.canonical.ensures.within)) c.index-ops-place.is
 
 pub returns-clause-small : goal.returns-clause-small
-returns-clause-small c = small_shift c.ops-ops.result.now c.args.group.now.centrings.items c.ops-ops.ensures.canonical c.args.i c.index-ops-i.result
-    (in_length c.ops-ops.result.now c.args.group.now.ops.items c.ops-ops.ensures.list c.args.i c.requires) c.index-ops-i.is c.args.i
+returns-clause-small c = small_shift c.ops-ops.result.now c.args.group.now.centrings.items c.ops-ops.ensures.canonical
+    c.args.i c.index-ops-i.result
+    (in_length c.ops-ops.result.now c.args.group.now.ops.items c.ops-ops.ensures.list c.args.i c.requires)
+    c.index-ops-i.is c.args.i
     c.index-ops-i-2.result
-    (in_length c.ops-ops.result.now c.args.group.now.ops.items c.ops-ops.ensures.list c.args.i c.requires) c.index-ops-i-2.is
+    (in_length c.ops-ops.result.now c.args.group.now.ops.items c.ops-ops.ensures.list c.args.i c.requires)
+    c.index-ops-i-2.is
     c.compose-both.result c.compose-both.ensures c.unwrap-op.result c.index-ops-place.result
     (in_length c.ops-ops.result.now c.args.group.now.ops.items c.ops-ops.ensures.list c.unwrap-op.result
-    (subst (λ r. IfSome r (λ k. k < length c.args.group.now.ops.items)) c.unwrap-op.ensures c.canonical.ensures.within)) c.index-ops-place.is
+    (subst (λ r. IfSome r (λ k. k < length c.args.group.now.ops.items)) c.unwrap-op.ensures
+    c.canonical.ensures.within)) c.index-ops-place.is
     c.difference-shift.result c.difference-shift.ensures
 
 pub returns-clause-product : goal.returns-clause-product
 returns-clause-product c = record {
   below = within;
-  is = λ d. ap₂ (λ (g h : Op). operation g ⊙ operation h) (sym (at c.args.i c.index-ops-i.result d c.requires c.index-ops-i.is)) (sym
+  is = λ d. ap₂ (λ (g h : Op). operation g ⊙ operation h) (sym
+      (at c.args.i c.index-ops-i.result d c.requires c.index-ops-i.is)) (sym
       (at c.args.i c.index-ops-i-2.result d c.requires c.index-ops-i-2.is))
       ∙ sym c.compose-both.ensures
-      ∙ translation_between (operation c.compose-both.result) (operation (get_or c.args.group.now.ops.items c.unwrap-op.result d))
+      ∙ translation_between (operation c.compose-both.result)
+      (operation (get_or c.args.group.now.ops.items c.unwrap-op.result d))
       (sym (subst (λ r. IfSome r (λ k. HoldsAt (λ g.
       (operation g).rotation ≡ rotation_of c.compose-both.result.rot) c.args.group.now.ops.items k)) c.unwrap-op.ensures
       c.canonical.ensures.found d))
       ∙ ap (λ t. translation t ⊙ operation (get_or c.args.group.now.ops.items c.unwrap-op.result d))
-      (sym (c.difference-shift.ensures ∙ ap (λ (g : Op). (operation c.compose-both.result).vector ⊖ (operation g).vector)
+      (sym (c.difference-shift.ensures ∙ ap (λ (g : Op). (operation c.compose-both.result).vector ⊖
+      (operation g).vector)
       (at c.unwrap-op.result c.index-ops-place.result d within c.index-ops-place.is)));
 }
   where
     within : c.unwrap-op.result < length c.args.group.now.ops.items
-    within = subst (λ r. IfSome r (λ k. k < length c.args.group.now.ops.items)) c.unwrap-op.ensures c.canonical.ensures.within
+    within = subst (λ r. IfSome r (λ k. k < length c.args.group.now.ops.items)) c.unwrap-op.ensures
+        c.canonical.ensures.within
 
-    at : (i : ℕ) (g d : Op) → i < length c.args.group.now.ops.items → g ≡ get_or c.ops-ops.result.now i g → g ≡ get_or c.args.group.now.ops.items i d
+    at : (i : ℕ) (g d : Op) → i < length c.args.group.now.ops.items → g ≡ get_or c.ops-ops.result.now i g → g
+        ≡ get_or c.args.group.now.ops.items i d
     at i g d l e = in_list c.ops-ops.result.now c.args.group.now.ops.items c.ops-ops.ensures.list i g e
         ∙ get_or_default c.args.group.now.ops.items i g d l

@@ -1,5 +1,6 @@
 -- The terms, one after another.
-use Rattle.std.proofs.Common.{◌≡◌, sym, ◌∙◌, subst, ℕ, ◌+◌, ◌*◌, ◌<◌, ◌≤◌, ◌^◌, List, length, get_or, slice_index, arith, rules}
+use Rattle.std.proofs.Common.{◌≡◌, sym, ◌∙◌, subst, ℕ, ◌+◌, ◌*◌, ◌<◌, ◌≤◌, ◌^◌, List, length, get_or, slice_index}
+use Rattle.std.proofs.Common.{arith, rules}
 use Rattle.std.specs.Int.{◌∣◌}
 use Rattle.std.proofs.lemmas.List.{get_or_default}
 use Rattle.std.proofs.lemmas.List.Elements.{Contains-get_or}
@@ -23,7 +24,8 @@ read xs i n e l = e ∙ get_or_default xs i n 0 l
 
 pub zero-requires : goal.zero-requires
 zero-requires g c = record {
-  admitted = admitted (phase_table c.args.t.now) c.args.order.now.n c.args.f.now c.requires.family g.S.Scalar.admits g.met.S.Scalar.order_admitted;
+  admitted = admitted (phase_table c.args.t.now) c.args.order.now.n c.args.f.now c.requires.family g.S.Scalar.admits
+      g.met.S.Scalar.order_admitted;
 }
 
 pub loop-i-init : goal.loop-i-init
@@ -32,12 +34,14 @@ loop-i-init g c =
     record {
       has_order = c.in_ok-sum.ensures.order;
       few = subst (IsRootSum n 0 1) (sym c.in_ok-sum.ensures.value) (IsRootSum-zero n 1 (omega arith));
-      so_far = λ h d D is. terms_none c.args.group.now (wave_vector c.args.k.now) c.args.t.now n D c.in_ok-places.places.items
+      so_far = λ h d D is. terms_none c.args.group.now (wave_vector c.args.k.now) c.args.t.now n D
+          c.in_ok-places.places.items
           (g.S.Scalar.value n c.in_ok-sum.sum) c.in_ok-sum.ensures.value;
     }
 
 pub square-square-requires-clause-divides : goal.square-square-requires-clause-divides
-square-square-requires-clause-divides g c = subst (λ n. (phase_table c.args.t.now).order ∣ n) (sym c.n.ensures.value) c.requires.family.divides
+square-square-requires-clause-divides g c = subst (λ n. (phase_table c.args.t.now).order ∣ n) (sym c.n.ensures.value)
+    c.requires.family.divides
 
 pub square-square-requires-clause-place : goal.square-square-requires-clause-place
 square-square-requires-clause-place g c =
@@ -52,7 +56,8 @@ square-square-requires-clause-reverses g c =
     let xs = c.in_ok-places.places.items in
     let i = c.loop-i.i in
     let l : i < length xs = search rules in
-    subst (IsReversingPlace c.args.group.now (wave_vector c.args.k.now)) (sym (read xs i c.index.result.now c.index.ensures l))
+    subst (IsReversingPlace c.args.group.now (wave_vector c.args.k.now))
+    (sym (read xs i c.index.result.now c.index.ensures l))
     (c.in_ok-places.ensures.holds (slice_index xs i) (Contains-get_or xs i 0 l))
 
 pub add-requires-clause-denominators : goal.add-requires-clause-denominators
@@ -60,8 +65,10 @@ add-requires-clause-denominators g c =
     let n = c.args.order.now.n in
     let sum = c.loop-i.sum in
     sum_denominators g.S.Scalar.value (g.S.Scalar.order_of sum) n
-    (g.met.S.Scalar.admitted_positive (g.S.Scalar.order_of sum) (g.met.S.Scalar.order_admitted sum)) c.loop-i.invariant.has_order
-    (c.loop-i.i * 48) 1 48 1 sum c.in_ok-term.term c.loop-i.invariant.few c.in_ok-term.ensures.few (2 ^ 60) (omega arith)
+    (g.met.S.Scalar.admitted_positive (g.S.Scalar.order_of sum) (g.met.S.Scalar.order_admitted sum))
+    c.loop-i.invariant.has_order
+    (c.loop-i.i * 48) 1 48 1 sum c.in_ok-term.term c.loop-i.invariant.few c.in_ok-term.ensures.few (2 ^ 60)
+    (omega arith)
 
 few_places : (a b i : ℕ) → a ≤ b → b ≤ 48 → i < a → i ≤ 48
 few_places a b i p q l = omega (arith, p, q, l)
@@ -74,11 +81,13 @@ add-requires-clause-sizes g c =
     let xs = c.in_ok-places.places.items in
     let l : c.loop-i.i < length xs = search rules in
     sum_sizes g.S.Scalar.value (g.S.Scalar.order_of sum) n
-    (g.met.S.Scalar.admitted_positive (g.S.Scalar.order_of sum) (g.met.S.Scalar.order_admitted sum)) c.loop-i.invariant.has_order
+    (g.met.S.Scalar.admitted_positive (g.S.Scalar.order_of sum) (g.met.S.Scalar.order_admitted sum))
+    c.loop-i.invariant.has_order
     (c.loop-i.i * 48) 1 48 1 sum c.in_ok-term.term c.loop-i.invariant.few c.in_ok-term.ensures.few (2 ^ 110)
     (add_room c.loop-i.i n
     (few_places (length xs) (length group.ops.items) c.loop-i.i
-    (few_listed (IsReversingPlace group (wave_vector c.args.k.now)) (length group.ops.items) xs c.in_ok-places.ensures) (form_of group).few l)
+    (few_listed (IsReversingPlace group (wave_vector c.args.k.now)) (length group.ops.items) xs
+    c.in_ok-places.ensures) (form_of group).few l)
     c.args.order.now.limited)
 
 next : (i : ℕ) → i * 48 + 48 ≡ (i + 1) * 48
@@ -106,14 +115,18 @@ loop-i-preserved g c =
           (IsRootSum-add_same n c.loop-i.invariant.few c.in_ok-term.ensures.few));
       so_far = λ h d D is.
           let q = c.square-square.result in
-          let p = same_place (phase_table t) n c.args.f.now c.requires.family D is q.place c.square-square.ensures.place in
-          terms_more group k t n D xs i (value n sum) (value n term) (value n after) (c.loop-i.invariant.so_far h d D is)
+          let p = same_place (phase_table t) n c.args.f.now c.requires.family D is q.place
+          c.square-square.ensures.place in
+          terms_more group k t n D xs i (value n sum) (value n term) (value n after)
+          (c.loop-i.invariant.so_far h d D is)
           (record {
             place = p.0;
             exponent = q.exponent;
             square = subst (λ j. IsSquareAt group k t n (slice_index xs i) j q.exponent) (sym p.1)
-                (subst (λ j. IsSquareAt group k t n j q.place q.exponent) (read xs i c.index.result.now c.index.ensures l)
-                (subst (λ m. IsSquareAt group k t m c.index.result.now q.place q.exponent) c.n.ensures.value c.square-square.ensures.square));
+                (subst (λ j. IsSquareAt group k t n j q.place q.exponent)
+                (read xs i c.index.result.now c.index.ensures l)
+                (subst (λ m. IsSquareAt group k t m c.index.result.now q.place q.exponent) c.n.ensures.value
+                c.square-square.ensures.square));
             is = c.in_ok-term.ensures.trace h d D is p.0 p.1;
           })
           added;
@@ -129,7 +142,8 @@ returns-clause-few g c =
     let last : c.loop-i.i ≤ length xs = search rules in
     IsRootSum-more c.args.order.now.n 2304
     (at_end (length xs) (length group.ops.items) c.loop-i.i
-    (few_listed (IsReversingPlace group (wave_vector c.args.k.now)) (length group.ops.items) xs c.in_ok-places.ensures) (form_of group).few last)
+    (few_listed (IsReversingPlace group (wave_vector c.args.k.now)) (length group.ops.items) xs
+    c.in_ok-places.ensures) (form_of group).few last)
     c.loop-i.invariant.few
 
 pub returns-clause-sum : goal.returns-clause-sum
@@ -137,6 +151,8 @@ returns-clause-sum g c h d D is =
     let n = c.args.order.now.n in
     let xs = c.in_ok-places.places.items in
     let last : c.loop-i.i ≡ length xs = search rules in
-    terms_all c.args.group.now (wave_vector c.args.k.now) c.args.t.now n D xs (g.S.Scalar.value n c.loop-i.sum) c.in_ok-places.ensures
-    (subst (λ j. TermsSoFar c.args.group.now (wave_vector c.args.k.now) c.args.t.now n D xs j (g.S.Scalar.value n c.loop-i.sum)) last
+    terms_all c.args.group.now (wave_vector c.args.k.now) c.args.t.now n D xs (g.S.Scalar.value n c.loop-i.sum)
+    c.in_ok-places.ensures
+    (subst (λ j. TermsSoFar c.args.group.now (wave_vector c.args.k.now) c.args.t.now n D xs j
+    (g.S.Scalar.value n c.loop-i.sum)) last
     (c.loop-i.invariant.so_far h d D is))

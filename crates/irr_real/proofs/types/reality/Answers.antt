@@ -34,10 +34,12 @@ returns-clause-type_of g c U M v d D is simple =
     let positive = subst (λ m. 0 < m) same c.in_ok-order.order.positive in
     type_is c.args.group.now (wave_vector c.args.k.now) c.args.t.now c.requires.table U M v D (value M sum)
     (subst (λ m. (h d : ℕ) (D : Fin h → Matrix (numbers m) d d) → IsFamilyOf m D f
-    → IsReversalSum c.args.group.now (wave_vector c.args.k.now) c.args.t.now m D (value m sum)) same c.in_ok-sum.ensures.sum U.places d D.at is)
+    → IsReversalSum c.args.group.now (wave_vector c.args.k.now) c.args.t.now m D (value m sum)) same
+    c.in_ok-sum.ensures.sum U.places d D.at is)
     positive simple (to_z w8 (of_z w8 answer))
     (λ x e. ap (λ z. to_z w8 (of_z w8 z))
-    (subst₂ (λ m j. (x : FormType) → value m sum ≡ (numbers m).mul (whole (numbers m) j) (type_number (numbers m) x) → answer ≡ type_integer x)
+    (subst₂ (λ m j. (x : FormType) → value m sum ≡ (numbers m).mul (whole (numbers m) j) (type_number (numbers m) x)
+    → answer ≡ type_integer x)
     same count c.in_ok-answer.ensures x e) ∙ read x)
 
 pub returns-clause-every_order : goal.returns-clause-every_order
@@ -51,11 +53,14 @@ returns-clause-every_order g c U M v d D is simple =
     ∙ order_at M (over U.table M v D).at f is 0 c.index.result.now c.index.ensures U.table.start U.table.start_first in
     let count = c.len.ensures.count ∙ sym c.requires.family.1.family.shape.count ∙ is.shape.count in
     let positive = subst (λ m. 0 < m) same c.in_ok-order.order.positive in
-    type_over_each c.args.group.now (wave_vector c.args.k.now) c.args.t.now c.requires.table U M positive v D simple (value M sum)
+    type_over_each c.args.group.now (wave_vector c.args.k.now) c.args.t.now c.requires.table U M positive v D simple
+    (value M sum)
     (subst (λ m. (h d : ℕ) (D : Fin h → Matrix (numbers m) d d) → IsFamilyOf m D f
-    → IsReversalSum c.args.group.now (wave_vector c.args.k.now) c.args.t.now m D (value m sum)) same c.in_ok-sum.ensures.sum U.places d
+    → IsReversalSum c.args.group.now (wave_vector c.args.k.now) c.args.t.now m D (value m sum)) same
+    c.in_ok-sum.ensures.sum U.places d
     (over U.table M v D).at is)
     (to_z w8 (of_z w8 answer))
     (λ x e. ap (λ z. to_z w8 (of_z w8 z))
-    (subst₂ (λ m j. (x : FormType) → value m sum ≡ (numbers m).mul (whole (numbers m) j) (type_number (numbers m) x) → answer ≡ type_integer x)
+    (subst₂ (λ m j. (x : FormType) → value m sum ≡ (numbers m).mul (whole (numbers m) j) (type_number (numbers m) x)
+    → answer ≡ type_integer x)
     same count c.in_ok-answer.ensures x e) ∙ read x)

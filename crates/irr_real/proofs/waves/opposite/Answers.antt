@@ -6,11 +6,13 @@ use Rattle.irr_real.proofs.waves.opposite.Goals as goal
 
 pub invariant_of-result : goal.invariant_of-result
 invariant_of-result c = record {
-  lowest = opposite_lowest c.args.k.now.num c.negatives-num.result c.args.k.now.den c.negatives-num.ensures.value c.args.k.now.lowest;
+  lowest = opposite_lowest c.args.k.now.num c.negatives-num.result c.args.k.now.den c.negatives-num.ensures.value
+      c.args.k.now.lowest;
 }
 
 pub returns-clause-opposite : goal.returns-clause-opposite
-returns-clause-opposite c = opposite_wave c.args.k.now.num c.negatives-num.result c.args.k.now.den c.negatives-num.ensures.value
+returns-clause-opposite c = opposite_wave c.args.k.now.num c.negatives-num.result c.args.k.now.den
+    c.negatives-num.ensures.value
     c.args.k.now.lowest.positive
 
 pub returns-clause-limits : goal.returns-clause-limits

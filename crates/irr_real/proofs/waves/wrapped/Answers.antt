@@ -24,6 +24,7 @@ invariant_of-result c = record {
 }
 
 pub returns-clause-equivalent : goal.returns-clause-equivalent
-returns-clause-equivalent c = wrapped_equivalent c.args.centrings.now c.requires.centrings c.args.k.now.num c.rests-num.result c.args.k.now.den
+returns-clause-equivalent c = wrapped_equivalent c.args.centrings.now c.requires.centrings c.args.k.now.num
+    c.rests-num.result c.args.k.now.den
     c.cell.result c.args.k.now.lowest.positive
     c.cell.ensures.positive c.cell.ensures.value c.rests-num.ensures.value
