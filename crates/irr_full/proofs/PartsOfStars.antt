@@ -46,13 +46,13 @@ module _ (G : Operation → Type 0) (group : IsGroup G) (chosen : HasCanonical G
       (L : Representations (phases_at S.table)) → IsCompleteList S.table L → IsInOrder S.table L
       → {n : ℕ} (places : Fin n → Fin e) (B : Representation (phases_over S.table M v) n) → IsPartOf S M v A places B
       → (m : Fin L.count) (q : ℕ) → HasDimension (over S.table M v (L.member m)).at B.at q
-          → IsMultiplicity s G positive A (member_part S L m q)
+      → IsMultiplicity s G positive A (member_part S L m q)
   star_multiplicity S v L complete ordered places B part m q h =
       let D = over S.table M v (L.member m) in
       let F = full_matrices G group chosen S M positive v D in
       let full = full_matrices-is_full G group chosen S M positive v D in
       multiplicity_at_order G group chosen s M positive A (member_part S L m q) S L complete ordered m refl refl v F
-          full
+      full
       (part-dimension G group chosen S M positive v D F full A is_representation has_diagonal places B part q h)
 
   module _ (Z : Stars s G M A) (c : StarLists positive Z) {n : ℕ} (parts : Fin n → Part)
@@ -60,8 +60,11 @@ module _ (G : Operation → Type 0) (group : IsGroup G) (chosen : HasCanonical G
     -- a part at the wave vector of a star is that of a member there
     at_star : (p : Part) → IsMultiplicity s G positive A p → (i : Fin Z.count) → Z.wave i ≡ p.wave
         → (m : Fin (c.list i).count) × (p ≡ star_part c i m)
-    at_star p a i same = (m, one_part G group chosen s M positive A is_representation has_diagonal p
-        (star_part c i m) a (c.multiplicity i m) (sym same) label)
+    at_star p a i same = (
+      m,
+      one_part G group chosen s M positive A is_representation has_diagonal p
+          (star_part c i m) a (c.multiplicity i m) (sym same) label,
+    )
       where
         found : IsMultiplicity s G positive A (part_of (Z.wave i) p.label p.mult p.dim)
         found = subst (λ k. IsMultiplicity s G positive A (part_of k p.label p.mult p.dim)) (sym same) a

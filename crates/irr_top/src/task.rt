@@ -8,9 +8,9 @@ ghost use Rattle.irr_top.specs.Question.{question_of};
 ghost use Rattle.irr_top.specs.Task.{asked_by, IsLimited};
 
 use crate::request::Request;
-use irr_sparse::Sparse;
 use irr_kvec::Wave;
 use irr_report::Report;
+use irr_sparse::Sparse;
 
 /// The numbers that the program works with.
 pub(crate) type Number = Sparse;
