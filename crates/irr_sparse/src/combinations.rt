@@ -9,24 +9,22 @@ ghost use Rattle.irr_sparse.specs.TermList.{AreTerms, exponent_at, row_sum, tota
 ghost use Rattle.irr_sparse.specs.Parts.{AreParts, IsFreeOutside, weight};
 
 use crate::parts::{Part, parts_of};
-use crate::terms::{add_power, add_row, add_term};
+use crate::terms::{Terms, add_power, add_row, add_term};
 use irr_cyc::{Memory, ORDER_LIMIT};
 use std::alloc::Global;
 
 /// The terms of z^j in the basis: at most the product of p - 1 over the primes of n, and mostly one.
-pub(crate) fn power(alloc: Global, n: u32, exponent: u32) -> Result<Vec<(u32, i128)>, Memory>
+pub(crate) fn power(alloc: Global, n: u32, exponent: u32) -> Result<Terms, Memory>
     requires few { n ≤ ORDER_LIMIT }
     requires inside { exponent < n }
     ensures terms { IfOk result (λ v. AreTerms n 0 v.items) }
     ensures sum { IfOk result (λ v. terms_sum n v.items ≡ root_power n exponent) }
 {
     if exponent == 0 {
-        let mut one = Vec::with_capacity(alloc, 1)?;
-        one.push((0, 1))?;
-        return Ok(one);
+        return Ok(Terms::from_buf(alloc, [(0, 1)]));
     }
     let parts = parts_of(n);
-    let mut sums = Vec::new(alloc);
+    let mut sums = Terms::new(alloc);
     add_power(&mut sums, n, parts.as_slice(), exponent, 1)?;
     Ok(sums)
 }
@@ -49,7 +47,7 @@ pub(crate) fn product(
     n: u32,
     xs: &[(u32, i128)],
     ys: &[(u32, i128)],
-) -> Result<Vec<(u32, i128)>, Memory>
+) -> Result<Terms, Memory>
     requires positive { 0 < n }
     requires few { n ≤ ORDER_LIMIT }
     requires left { AreTerms n 0 xs.now }
@@ -59,10 +57,10 @@ pub(crate) fn product(
     ensures sum { IfOk result (λ v. terms_sum n v.items ≡ (numbers n).mul (terms_sum n xs.now) (terms_sum n ys.now)) }
 {
     if xs.is_empty() {
-        return Ok(Vec::new(alloc));
+        return Ok(Terms::new(alloc));
     }
     if ys.is_empty() {
-        return Ok(Vec::new(alloc));
+        return Ok(Terms::new(alloc));
     }
     if is_rational(xs) {
         let products = scaled(alloc, ys, xs[0].1)?;
@@ -73,7 +71,7 @@ pub(crate) fn product(
         return Ok(products);
     }
     let parts = parts_of(n);
-    let mut sums = Vec::new(alloc);
+    let mut sums = Terms::new(alloc);
     for (exponent, coefficient) in xs {
         add_row(
             &mut sums,
@@ -94,7 +92,7 @@ pub(crate) fn moved(
     n: u32,
     factor: u32,
     terms: &[(u32, i128)],
-) -> Result<Vec<(u32, i128)>, Memory>
+) -> Result<Terms, Memory>
     requires positive { 0 < n }
     requires few { n ≤ ORDER_LIMIT }
     requires inside { All (λ t. factor * t.0 < n) terms.now }
@@ -104,14 +102,14 @@ pub(crate) fn moved(
     ensures sum { IfOk result (λ v. terms_sum n v.items ≡ row_sum n (pos 1) 0 factor terms.now) }
 {
     let parts = parts_of(n);
-    let mut sums = Vec::new(alloc);
+    let mut sums = Terms::new(alloc);
     add_row(&mut sums, n, parts.as_slice(), 1, 0, factor, terms)?;
     Ok(sums)
 }
 
 // Adds c z^j, where c may be 0.
 fn add_whole(
-    sums: &mut Vec<(u32, i128)>,
+    sums: &mut Terms,
     n: u32,
     parts: &[Part],
     exponent: u32,
@@ -139,7 +137,7 @@ pub(crate) fn collected(
     alloc: Global,
     n: u32,
     terms: &[(u32, i64)],
-) -> Result<Vec<(u32, i128)>, Memory>
+) -> Result<Terms, Memory>
     requires positive { 0 < n }
     requires few { n ≤ ORDER_LIMIT }
     requires exponents { All (λ t. t.0 < n) terms.now }
@@ -148,7 +146,7 @@ pub(crate) fn collected(
     ensures sum { IfOk result (λ v. terms_sum n v.items ≡ terms_sum n terms.now) }
 {
     let parts = parts_of(n);
-    let mut sums = Vec::new(alloc);
+    let mut sums = Terms::new(alloc);
     for (exponent, coefficient) in terms {
         add_whole(&mut sums, n, parts.as_slice(), *exponent, *coefficient)?;
     }
@@ -160,11 +158,11 @@ pub(crate) fn scaled(
     alloc: Global,
     terms: &[(u32, i128)],
     times: i128,
-) -> Result<Vec<(u32, i128)>, Memory>
+) -> Result<Terms, Memory>
     requires { total terms.now * unsigned_abs times < 2 ^ 126 }
     ensures { IfOk result (λ v. v.items ≡ map (λ t. (t.0, t.1 *ℤ times)) terms.now) }
 {
-    let mut products = Vec::with_capacity(alloc, terms.len())?;
+    let mut products = Terms::with_capacity(alloc, terms.len())?;
     for (exponent, coefficient) in terms {
         products.push((*exponent, *coefficient * times))?;
     }
@@ -173,7 +171,7 @@ pub(crate) fn scaled(
 
 // Adds the terms, each times a number: a search by halves for each, and none for those behind all others.
 fn add_multiples(
-    sums: &mut Vec<(u32, i128)>,
+    sums: &mut Terms,
     terms: &[(u32, i128)],
     times: i128,
 ) -> Result<(), Memory>
@@ -192,7 +190,7 @@ fn add_multiples(
 
 // Adds the terms from a place on whose exponents are below a limit, each times a number, and gives the next place.
 fn add_below(
-    sums: &mut Vec<(u32, i128)>,
+    sums: &mut Terms,
     terms: &[(u32, i128)],
     from: usize,
     times: i128,
@@ -227,7 +225,7 @@ pub(crate) fn combination(
     left: i128,
     ys: &[(u32, i128)],
     right: i128,
-) -> Result<Vec<(u32, i128)>, Memory>
+) -> Result<Terms, Memory>
     requires both { (n : ℕ) × AreTerms n 0 xs.now × AreTerms n 0 ys.now }
     requires left { left ≢ pos 0 }
     requires right { right ≢ pos 0 }
@@ -235,7 +233,7 @@ pub(crate) fn combination(
     ensures terms { IfOk result (λ v. (n : ℕ) → AreTerms n 0 xs.now → AreTerms n 0 ys.now → AreTerms n 0 v.items) }
     ensures sum { IfOk result (λ v. (n : ℕ) → terms_sum n v.items ≡ (numbers n).add ((numbers n).mul (integer (numbers n) left) (terms_sum n xs.now)) ((numbers n).mul (integer (numbers n) right) (terms_sum n ys.now))) }
 {
-    let mut sums = Vec::with_capacity(alloc, xs.len() + ys.len())?;
+    let mut sums = Terms::with_capacity(alloc, xs.len() + ys.len())?;
     let mut from = 0;
     for (exponent, coefficient) in xs {
         from = add_below(&mut sums, ys, from, right, *exponent)?;

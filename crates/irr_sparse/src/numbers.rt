@@ -6,7 +6,7 @@ ghost use Rattle.irr_sparse.specs.Value.{value_of};
 
 use crate::combinations::{collected, combination, moved, power, product, scaled};
 use crate::lowest::to_lowest_terms;
-use crate::terms::are_same;
+use crate::terms::{Terms, are_same};
 use irr_cyc::{Canon, Lift, Memory, ORDER_LIMIT, Order, Scalar};
 use std::alloc::Global;
 
@@ -16,7 +16,7 @@ use std::alloc::Global;
 pub struct Sparse {
     n: u32,
     den: u64,
-    terms: Vec<(u32, i128)>,
+    terms: Terms,
     pub ghost some: { 0 < n },
     pub ghost few: { n ≤ ORDER_LIMIT },
     pub ghost positive: { 0 < den },
@@ -26,7 +26,7 @@ pub struct Sparse {
 
 impl Sparse {
     // The number of terms in the basis, over a denominator.
-    fn of_terms(n: u32, mut terms: Vec<(u32, i128)>, den: u64) -> Sparse
+    fn of_terms(n: u32, mut terms: Terms, den: u64) -> Sparse
         requires some { 0 < n }
         requires few { n ≤ ORDER_LIMIT }
         requires positive { 0 < den }
@@ -51,7 +51,7 @@ impl Scalar for Sparse {
         Ok(Sparse {
             n: order.n(),
             den: 1,
-            terms: Vec::new(alloc),
+            terms: Terms::new(alloc),
         })
     }
 
@@ -131,7 +131,7 @@ impl Scalar for Sparse {
             return Ok(Sparse {
                 n: self.n,
                 den: 1,
-                terms: Vec::new(alloc),
+                terms: Terms::new(alloc),
             });
         }
         let products = scaled(alloc, self.terms.as_slice(), i128::from(num))?;
@@ -140,7 +140,7 @@ impl Scalar for Sparse {
 
     /// One allocation.
     fn copy(&self, alloc: Global) -> Result<Sparse, Memory> {
-        let terms = Vec::from_slice(alloc, self.terms.as_slice())?;
+        let terms = Terms::from_slice(alloc, self.terms.as_slice())?;
         Ok(Sparse {
             n: self.n,
             den: self.den,

@@ -10,7 +10,10 @@ ghost use Rattle.irr_sparse.specs.Parts.{AreParts, IsFreeOutside, weight};
 
 use crate::parts::Part;
 use irr_cyc::{Memory, ORDER_LIMIT};
-use std::alloc::Global;
+use smallvec::SmallVec;
+
+/// A list of terms. One term takes no memory.
+pub(crate) type Terms = SmallVec<(u32, i128), 1>;
 
 /// Whether two lists are the same, term by term. No memory is needed.
 pub(crate) fn are_same(xs: &[(u32, i128)], ys: &[(u32, i128)]) -> bool
@@ -60,7 +63,7 @@ fn place_of(terms: &[(u32, i128)], exponent: u32) -> usize
 
 /// Adds a term. It is a search by halves, and the terms behind the place move where a term comes or goes.
 pub(crate) fn add_term(
-    terms: &mut Vec<(u32, i128)>,
+    terms: &mut Terms,
     exponent: u32,
     coefficient: i128,
 ) -> Result<(), Memory>
@@ -75,7 +78,7 @@ pub(crate) fn add_term(
         terms.push((exponent, coefficient))?;
         return Ok(());
     }
-    let (there, before) = terms[place];
+    let (there, before) = terms.as_slice()[place];
     if there != exponent {
         terms.insert(place, (exponent, coefficient))?;
         return Ok(());
@@ -85,7 +88,7 @@ pub(crate) fn add_term(
         terms.remove(place);
         return Ok(());
     }
-    terms[place] = (exponent, sum);
+    terms.as_mut_slice()[place] = (exponent, sum);
     Ok(())
 }
 
@@ -104,7 +107,7 @@ fn turned(i: u32, j: u32, n: u32) -> u32
 /// Adds c z^j for any j below n: at each prime of which z^j is a top power it is the negative of the p - 1 others
 /// of its class modulo n/p. So it adds at most as many terms as the product of p - 1 over the primes.
 pub(crate) fn add_power(
-    terms: &mut Vec<(u32, i128)>,
+    terms: &mut Terms,
     n: u32,
     parts: &[Part],
     exponent: u32,
@@ -141,7 +144,7 @@ pub(crate) fn add_power(
 
 /// Adds k z^s times the terms, with z^f for z: the cost of `add_power` for each term.
 pub(crate) fn add_row(
-    sums: &mut Vec<(u32, i128)>,
+    sums: &mut Terms,
     n: u32,
     parts: &[Part],
     times: i128,

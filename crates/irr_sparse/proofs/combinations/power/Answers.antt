@@ -19,14 +19,14 @@ pub returns-clause-sum : goal.returns-clause-sum
 returns-clause-sum c = alone c.args.n c.args.exponent c.new-sums.result.items (terms_sum c.args.n c.add_power.new.terms.items) c.new-sums.ensures.items c.in_ok-add_power.ensures.sum
 
 -- 1 alone
-one-terms : (n j : ℕ) (ts us : List (ℕ × ℤ)) → j < n → j ≡ 0 → ts ≡ [] → us ≡ ts ++ (0, pos 1) ∷ [] → AreTerms n 0 us
-one-terms n j ts us lt z e is = subst (AreTerms n 0) (sym (is ∙ ap (λ xs. xs ++ (0, pos 1) ∷ []) e)) (terms-one n (omega arith))
+one-terms : (n j : ℕ) (us : List (ℕ × ℤ)) → j < n → j ≡ 0 → us ≡ (0, pos 1) ∷ [] → AreTerms n 0 us
+one-terms n j us lt z is = subst (AreTerms n 0) (sym is) (terms-one n (omega arith))
 
-one-sum : (n j : ℕ) (ts us : List (ℕ × ℤ)) → j ≡ 0 → ts ≡ [] → us ≡ ts ++ (0, pos 1) ∷ [] → terms_sum n us ≡ root_power n j
-one-sum n j ts us z e is = ap (terms_sum n) (is ∙ ap (λ xs. xs ++ (0, pos 1) ∷ []) e) ∙ sum-unit n ∙ ap (root_power n) (sym z)
+one-sum : (n j : ℕ) (us : List (ℕ × ℤ)) → j ≡ 0 → us ≡ (0, pos 1) ∷ [] → terms_sum n us ≡ root_power n j
+one-sum n j us z is = ap (terms_sum n) is ∙ sum-unit n ∙ ap (root_power n) (sym z)
 
 pub returns-then-exponent-eq0-clause-terms : goal.returns-then-exponent-eq0-clause-terms
-returns-then-exponent-eq0-clause-terms c = one-terms c.args.n c.args.exponent c.in_ok-one.one.items c.push.new.self.items c.requires.inside c.if-exponent-eq0.true c.in_ok-one.ensures.items c.in_ok-push.ensures.items
+returns-then-exponent-eq0-clause-terms c = one-terms c.args.n c.args.exponent c.from_buf.result.items c.requires.inside c.if-exponent-eq0.true c.from_buf.ensures.items
 
 pub returns-then-exponent-eq0-clause-sum : goal.returns-then-exponent-eq0-clause-sum
-returns-then-exponent-eq0-clause-sum c = one-sum c.args.n c.args.exponent c.in_ok-one.one.items c.push.new.self.items c.if-exponent-eq0.true c.in_ok-one.ensures.items c.in_ok-push.ensures.items
+returns-then-exponent-eq0-clause-sum c = one-sum c.args.n c.args.exponent c.from_buf.result.items c.if-exponent-eq0.true c.from_buf.ensures.items

@@ -21,7 +21,7 @@ loop-exponent-preserved c =
     let fc : FitsSigned w128 (coefficient_at c.args.terms.now c.loop-exponent.exponent-index) = search rules in
     let r : to_z w128 (of_z w128 c.args.times) ≡ c.args.times = to_z-of_z w128 c.args.times ft in
     let p : to_z w128 (of_z w128 (to_z w128 (of_z w128 (coefficient_at c.args.terms.now c.loop-exponent.exponent-index)) *ℤ to_z w128 (of_z w128 c.args.times))) ≡ (coefficient_at c.args.terms.now c.loop-exponent.exponent-index) *ℤ c.args.times = product_read (coefficient_at c.args.terms.now c.loop-exponent.exponent-index) c.args.times fc ft (factor-small c.args.terms.now (unsigned_abs c.args.times) c.loop-exponent.exponent-index c.loop-exponent-test.true c.requires) in
-    c.in_ok-push.ensures.items ∙ ap₂ (λ (ts : List (ℕ × ℤ)) (x : ℤ). ts ++ (exponent_at c.args.terms.now c.loop-exponent.exponent-index, x) ∷ []) (c.loop-exponent.invariant ∙ ap (λ k. map (λ (t : ℕ × ℤ). (t.0, t.1 *ℤ k)) (take c.loop-exponent.exponent-index c.args.terms.now)) r) p
+    c.in_ok-push.ensures.ok ∙ ap₂ (λ (ts : List (ℕ × ℤ)) (x : ℤ). ts ++ (exponent_at c.args.terms.now c.loop-exponent.exponent-index, x) ∷ []) (c.loop-exponent.invariant ∙ ap (λ k. map (λ (t : ℕ × ℤ). (t.0, t.1 *ℤ k)) (take c.loop-exponent.exponent-index c.args.terms.now)) r) p
     ∙ sym (map_more (λ (t : ℕ × ℤ). (t.0, t.1 *ℤ c.args.times)) c.args.terms.now c.loop-exponent.exponent-index (0, pos 0) c.loop-exponent-test.true)
     ∙ ap (λ k. map (λ (t : ℕ × ℤ). (t.0, t.1 *ℤ k)) (take (c.loop-exponent.exponent-index + 1) c.args.terms.now)) (sym r)
 

@@ -18,4 +18,4 @@ same-test n left right xs ys d e b f g p q de t = (
 
 pub returns : goal.returns
 returns c = same-test c.args.self.now.n c.as_slice.result.now c.as_slice-2.result.now c.args.self.now.terms.items c.args.other.now.terms.items c.args.self.now.den c.args.other.now.den c.are_same.result
-    (form_of c.args.self.now) (form_at c.args.other.now c.args.self.now.n c.requires.orders) c.as_slice.ensures.value c.as_slice-2.ensures.value c.if-self-other.false c.are_same.ensures
+    (form_of c.args.self.now) (form_at c.args.other.now c.args.self.now.n c.requires.orders) c.as_slice.ensures c.as_slice-2.ensures c.if-self-other.false c.are_same.ensures

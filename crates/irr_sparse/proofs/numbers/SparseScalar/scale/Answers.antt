@@ -42,7 +42,7 @@ scaled-requires c =
     let r : to_z w128 (of_z w128 c.from.result) ≡ c.args.num = factor_read c.from.result c.args.num ft fits c.from.ensures in
     let small : total c.args.self.now.terms.items * unsigned_abs c.args.num ≤ 2 ^ 100 = scaled-small c.args.self.now.n c.args.self.now.terms.items c.args.self.now.den (form_of c.args.self.now) (unsigned_abs c.args.num) c.requires.sizes in
     subst (λ x. total c.as_slice.result.now * unsigned_abs x < 2 ^ 126) (sym r)
-    (subst (λ (ts : List (ℕ × ℤ)). total ts * unsigned_abs c.args.num < 2 ^ 126) (sym c.as_slice.ensures.value) (omega (arith, small)))
+    (subst (λ (ts : List (ℕ × ℤ)). total ts * unsigned_abs c.args.num < 2 ^ 126) (sym c.as_slice.ensures) (omega (arith, small)))
 
 pub overflow_mul-self : goal.overflow_mul-self
 overflow_mul-self c =
@@ -62,7 +62,7 @@ of_terms-requires-clause-terms c =
     let fits : FitsSigned w64 c.args.num = search rules in
     let ft : FitsSigned w128 c.from.result = search rules in
     let r : to_z w128 (of_z w128 c.from.result) ≡ c.args.num = factor_read c.from.result c.args.num ft fits c.from.ensures in
-    subst (AreTerms c.args.self.now.n 0) (sym (multiples c.as_slice.result.now c.args.self.now.terms.items c.in_ok-products.products.items (to_z w128 (of_z w128 c.from.result)) c.args.num c.as_slice.ensures.value r c.in_ok-products.ensures))
+    subst (AreTerms c.args.self.now.n 0) (sym (multiples c.as_slice.result.now c.args.self.now.terms.items c.in_ok-products.products.items (to_z w128 (of_z w128 c.from.result)) c.args.num c.as_slice.ensures r c.in_ok-products.ensures))
     (terms-scaled c.args.self.now.n 0 c.args.num c.args.self.now.terms.items (nonzero-num c.args.num c.if-num-eq0.false) c.args.self.now.canonical)
 
 pub returns-clause-value : goal.returns-clause-value
@@ -70,7 +70,7 @@ returns-clause-value c =
     let fits : FitsSigned w64 c.args.num = search rules in
     let ft : FitsSigned w128 c.from.result = search rules in
     let r : to_z w128 (of_z w128 c.from.result) ≡ c.args.num = factor_read c.from.result c.args.num ft fits c.from.ensures in
-    let is : c.in_ok-products.products.items ≡ map (λ (t : ℕ × ℤ). (t.0, t.1 *ℤ c.args.num)) c.args.self.now.terms.items = multiples c.as_slice.result.now c.args.self.now.terms.items c.in_ok-products.products.items (to_z w128 (of_z w128 c.from.result)) c.args.num c.as_slice.ensures.value r c.in_ok-products.ensures in
+    let is : c.in_ok-products.products.items ≡ map (λ (t : ℕ × ℤ). (t.0, t.1 *ℤ c.args.num)) c.args.self.now.terms.items = multiples c.as_slice.result.now c.args.self.now.terms.items c.in_ok-products.products.items (to_z w128 (of_z w128 c.from.result)) c.args.num c.as_slice.ensures r c.in_ok-products.ensures in
     ap ((numbers c.args.self.now.n).mul (whole (numbers c.args.self.now.n) c.args.den)) c.of_terms.ensures.value
     ∙ scaled-number c.args.self.now.n c.args.self.now.terms.items c.args.self.now.den (form_of c.args.self.now) c.in_ok-products.products.items c.args.num c.args.den c.requires.positive
     (subst (AreTerms c.args.self.now.n 0) (sym is) (terms-scaled c.args.self.now.n 0 c.args.num c.args.self.now.terms.items (nonzero-num c.args.num c.if-num-eq0.false) c.args.self.now.canonical))
