@@ -1,6 +1,7 @@
 //! The parts of representations of space groups: how often the full representation of each small one stands in one.
 #![tactic(auto)]
 
+mod characters;
 mod dimension;
 mod error;
 mod lifting;
@@ -8,6 +9,7 @@ mod listing;
 mod part;
 mod star;
 
+pub use characters::star_characters;
 pub use dimension::multiplicity;
 pub use error::WorkError;
 pub use irr_memory::Memory;
