@@ -5,7 +5,7 @@
 --   IsCharacterAt, family_at, asked_family     the members of a list, one after another
 --   steps_here, order_divides                  the table of the little group
 --   star_here                the star of the arms and of the table of the little group
-use Rattle.std.proofs.Common.{◌≡◌, sym, ◌∙◌, ap, subst, ℕ, zero, suc, ◌+◌, ◌-◌, ◌<◌, ◌≤◌, ◌⊎◌, inl, inr, List, [], ◌∷◌, ◌++◌, length, get_or, arith}
+use Rattle.std.proofs.Common.{◌≡◌, sym, ◌∙◌, ap, subst, ℕ, zero, suc, ◌+◌, ◌<◌, ◌≤◌, inl, inr, List, [], ◌∷◌, ◌++◌, length, get_or, arith}
 use Rattle.std.proofs.Math.Seq.{get_or-append_seam}
 use Rattle.std.specs.Int.{◌∣◌}
 use Rattle.std.proofs.lemmas.List.Elements.{All-get_or}
@@ -48,7 +48,8 @@ use Rattle.irr_mult.specs.Listing.{item}
 use Rattle.irr_mult.specs.Traced.{StarOn}
 
 -- increasing indices are at least their numbers
-at_least : (a n : ℕ) (f : Fin a → Fin n) → ((i j : Fin a) → to_nat i < to_nat j → to_nat (f i) < to_nat (f j)) → (k : ℕ) (i : Fin a) → to_nat i ≡ k
+at_least : (a n : ℕ) (f : Fin a → Fin n) → ((i j : Fin a) → to_nat i < to_nat j → to_nat (f i) < to_nat (f j))
+    → (k : ℕ) (i : Fin a) → to_nat i ≡ k
     → k ≤ to_nat (f i)
 at_least a n f increasing zero i e = omega arith
 at_least a n f increasing (suc k) i e =
@@ -73,24 +74,30 @@ no_more (suc a) n f increasing =
 pub some_operation : (group : Group) → Op
 some_operation group = item group.ops.items (from_nat (length group.ops.items) 0 (form_of group).nonempty)
 
-pub few_arms : (group : Group) (k : WaveVector) (wave : Wave) (arms : List Arm) → AreArms group k arms → length arms ≤ 48
+pub few_arms : (group : Group) (k : WaveVector) (wave : Wave) (arms : List Arm) → AreArms group k arms
+    → length arms ≤ 48
 few_arms group k wave arms are =
     let few = (form_of group).few in
-    let l = no_more (length arms) (length group.ops.items) are.number (are.star (some_operation group) (record { wave = wave; op = 0 })).ordered in
+    let l = no_more (length arms) (length group.ops.items) are.number
+    (are.star (some_operation group) (record { wave = wave; op = 0 })).ordered in
     omega (arith, few, l)
 
 -- what holds of each item, with one more
-pub pushed : {X : Type 0} (P : ℕ → X → Type 0) (xs after : List X) (x : X) (k : ℕ) → length xs ≡ k → after ≡ xs ++ x ∷ []
+pub pushed : {X : Type 0} (P : ℕ → X → Type 0) (xs after : List X) (x : X) (k : ℕ) → length xs ≡ k
+    → after ≡ xs ++ x ∷ []
     → ((j : ℕ) (e : X) → j < k → P j (get_or xs j e)) → P k x → (j : ℕ) (e : X) → j < k + 1 → P j (get_or after j e)
 pushed P xs after x k count is before here j e l = subst (λ zs. P j (get_or zs j e)) (sym is) (elim (cases_lt j k) [
-  | inl inside ↦ subst (P j) (sym (get_or_append_left xs (x ∷ []) e j (subst (λ n. j < n) (sym count) inside))) (before j e inside)
+  | inl inside ↦ subst (P j) (sym (get_or_append_left xs (x ∷ []) e j (subst (λ n. j < n) (sym count) inside)))
+      (before j e inside)
   | inr past ↦ (
       let last : j ≡ length xs = (let c = count in omega (arith, c, past, l)) in
-      subst (P j) (sym (ap (λ n. get_or (xs ++ x ∷ []) n e) last ∙ get_or-append_seam xs x [] e)) (subst (λ n. P n x) (sym (last ∙ count)) here)
-    )
+      subst (P j) (sym (ap (λ n. get_or (xs ++ x ∷ []) n e) last ∙ get_or-append_seam xs x [] e))
+      (subst (λ n. P n x) (sym (last ∙ count)) here)
+      )
 ])
 
-pub full_list : {S : Type 0} {G : Ghosts S} {h : ℕ} (T : PhaseTable h) (fs : List (Family S G)) (s : IsSmallList T fs) → IsFull s.list
+pub full_list : {S : Type 0} {G : Ghosts S} {h : ℕ} (T : PhaseTable h) (fs : List (Family S G))
+    (s : IsSmallList T fs) → IsFull s.list
 full_list T fs s = record {
   positive = s.complete.positive;
   simple = s.simple;
@@ -117,20 +124,27 @@ star_here group wave arms t are little =
     }
 
 -- the character of the member with the number j
-abbrev pub IsCharacterAt : {S : Type 0} (order : S → ℕ) (value : (n : ℕ) → S → Number n) {h : ℕ} (T : PhaseTable h) (M : ℕ) (v : T.order ∣ M)
+abbrev pub IsCharacterAt : {S : Type 0} (order : S → ℕ) (value : (n : ℕ) → S → Number n) {h : ℕ} (T : PhaseTable h)
+    (M : ℕ) (v : T.order ∣ M)
     (L : Representations (phases_at T)) → ℕ → SmallCharacter S → Type 0
-IsCharacterAt order value T M v L j x = (m : Fin L.count) → to_nat m ≡ j → IsCharacterOf order value T M v (L.member m) x
+IsCharacterAt order value T M v L j x = (m : Fin L.count) → to_nat m ≡ j
+    → IsCharacterOf order value T M v (L.member m) x
 
 -- the family of a member
-pub family_at : {S : Type 0} {G : Ghosts S} {h : ℕ} (T : PhaseTable h) (L : Representations (phases_at T)) (fs : List (Family S G))
-    → AreRead T.order (phases_at T) L fs → (k : ℕ) (f : Family S G) → f ≡ get_or fs k f → (m : Fin L.count) → to_nat m ≡ k
+pub family_at : {S : Type 0} {G : Ghosts S} {h : ℕ} (T : PhaseTable h) (L : Representations (phases_at T))
+    (fs : List (Family S G))
+    → AreRead T.order (phases_at T) L fs → (k : ℕ) (f : Family S G) → f ≡ get_or fs k f → (m : Fin L.count)
+    → to_nat m ≡ k
     → IsRead T.order (phases_at T) (L.member m) f
-family_at T L fs read k f is m e = subst (IsRead T.order (phases_at T) (L.member m)) (ap (λ n. get_or fs n f) e ∙ sym is) (read.read m f)
+family_at T L fs read k f is m e = subst (IsRead T.order (phases_at T) (L.member m))
+    (ap (λ n. get_or fs n f) e ∙ sym is) (read.read m f)
 
 -- what is asked of the family at a place of a list
-module _ {S : Type 0} {G : Ghosts S} {h : ℕ} (T : PhaseTable h) (few : h ≤ 48) (fs : List (Family S G)) (s : IsSmallList T fs) (k : ℕ) (l : k < length fs)
+module _ {S : Type 0} {G : Ghosts S} {h : ℕ} (T : PhaseTable h) (few : h ≤ 48) (fs : List (Family S G))
+    (s : IsSmallList T fs) (k : ℕ) (l : k < length fs)
     (f : Family S G) (is : f ≡ get_or fs k f) where
-  pub asked_family : (d : ℕ) × (D : Representation (phases_at T) d) × (d ≤ 48) × IsRead T.order (phases_at T) D f × IsSized T.order h f
+  pub asked_family : (d : ℕ) × (D : Representation (phases_at T) d) × (d ≤ 48) × IsRead T.order (phases_at T) D f
+      × IsSized T.order h f
   asked_family =
       let below : k < s.list.count = subst (λ n. k < n) s.read.count l in
       let m = from_nat s.list.count k below in (
@@ -142,11 +156,13 @@ module _ {S : Type 0} {G : Ghosts S} {h : ℕ} (T : PhaseTable h) (few : h ≤ 4
       )
 
 -- a table whose order divides another one
-module _ (group : Group) (wave : Wave) (t : Twisted) (little : IsLittleTable group (wave_vector wave) (operation_places t) (phase_table t)) (M : ℕ) (n : ℕ)
+module _ (group : Group) (wave : Wave) (t : Twisted) (little : IsLittleTable group (wave_vector wave)
+    (operation_places t) (phase_table t)) (M : ℕ) (n : ℕ)
     (order : IsOrder (stands_for group) (wave_vector wave) n) (divides : n ∣ M) where
   pub steps_here : HasSteps (phase_table t)
   steps_here = let d = some_operation group in tables_have_steps (sign_of group.phase) (stands_for group)
-      (IsInLittleGroup (stands_for group) (wave_vector wave)) (wave_vector wave) (listed_operations group (place_count t) (operation_places t) d)
+      (IsInLittleGroup (stands_for group) (wave_vector wave)) (wave_vector wave)
+      (listed_operations group (place_count t) (operation_places t) d)
       (phase_table t) (little.numbering d) (little.table d)
 
   pub order_divides : (phase_table t).order ∣ M

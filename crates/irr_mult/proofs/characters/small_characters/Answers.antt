@@ -11,15 +11,18 @@ loop-family-init g c = (ap length c.new-characters.ensures.items, λ h T v L rea
 pub small_character-requires : goal.small_character-requires
 small_character-requires g c =
     let r = c.requires in
-    let a = asked_family r.1 r.2 c.args.families.now r.4 c.loop-family.family-index c.loop-family-test.true c.family-item.result c.family-item.is in
+    let a = asked_family r.1 r.2 c.args.families.now r.4 c.loop-family.family-index c.loop-family-test.true
+    c.family-item.result c.family-item.is in
     (r.0, r.1, r.2, r.3, a.0, a.1, a.2, a.3, a.4)
 
 pub loop-family-preserved : goal.loop-family-preserved
 loop-family-preserved g c =
     let k = c.loop-family.family-index in (
-      ap length c.in_ok-push.ensures.items ∙ length-append c.loop-family.characters.items (c.in_ok-character.character ∷ [])
+      ap length c.in_ok-push.ensures.items ∙ length-append c.loop-family.characters.items
+          (c.in_ok-character.character ∷ [])
           ∙ ap (λ n. n + 1) c.loop-family.invariant.0,
-      λ h T v L read. pushed (IsCharacterAt g.S.Scalar.order_of g.S.Scalar.value T c.args.order.now.n v L) c.loop-family.characters.items
+      λ h T v L read. pushed (IsCharacterAt g.S.Scalar.order_of g.S.Scalar.value T c.args.order.now.n v L)
+          c.loop-family.characters.items
           c.push.new.self.items c.in_ok-character.character k c.loop-family.invariant.0 c.in_ok-push.ensures.items
           (c.loop-family.invariant.1 h T v L read)
           (λ m e. c.in_ok-character.ensures h T v (L.size m) (L.member m)
@@ -27,9 +30,11 @@ loop-family-preserved g c =
     )
 
 pub returns-clause-count : goal.returns-clause-count
-returns-clause-count g c = (let done : c.loop-family.family-index ≡ length c.args.families.now = search rules in c.loop-family.invariant.0 ∙ done)
+returns-clause-count g c = (let done : c.loop-family.family-index ≡ length c.args.families.now = search rules in
+    c.loop-family.invariant.0 ∙ done)
 
 pub returns-clause-characters : goal.returns-clause-characters
 returns-clause-characters g c h T v L read m e =
     let done : c.loop-family.family-index ≡ length c.args.families.now = search rules in
-    c.loop-family.invariant.1 h T v L read (to_nat m) e (subst (λ n. to_nat m < n) (sym (done ∙ read.count)) (to_nat-lt m)) m refl
+    c.loop-family.invariant.1 h T v L read (to_nat m) e (subst (λ n. to_nat m < n) (sym (done ∙ read.count))
+    (to_nat-lt m)) m refl

@@ -10,6 +10,7 @@ use Rattle.irr_mult.proofs.characters.small_characters.Given as goal
 
 abbrev pub invariant-loop-family : goal.invariant-loop-family
 invariant-loop-family g l = (length l.characters.items ≡ l.family-index)
-    × ((h : ℕ) (T : PhaseTable h) (v : T.order ∣ l.order.n) (L : Representations (phases_at T)) → AreRead T.order (phases_at T) L l.families
+    × ((h : ℕ) (T : PhaseTable h) (v : T.order ∣ l.order.n) (L : Representations (phases_at T))
+    → AreRead T.order (phases_at T) L l.families
     → (j : ℕ) (e : SmallCharacter g.row.S.Denot) → j < l.family-index
     → IsCharacterAt g.S.Scalar.order_of g.S.Scalar.value T l.order.n v L j (get_or l.characters.items j e))

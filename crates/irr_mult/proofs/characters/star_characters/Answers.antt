@@ -30,7 +30,8 @@ complete_list-requires-clause-within g c =
     let r = c.requires.order in
     let order = c.args.order.now in
     Nat.le_trans (Nat.le_of_dvd order.positive
-    (order_divides c.args.group.now c.args.wave.now c.in_ok-table.table c.in_ok-table.ensures order.n r.0 r.1 r.2)) order.limited
+    (order_divides c.args.group.now c.args.wave.now c.in_ok-table.table c.in_ok-table.ensures order.n r.0 r.1 r.2))
+    order.limited
 
 pub small_characters-requires : goal.small_characters-requires
 small_characters-requires g c =
@@ -67,7 +68,8 @@ returns-clause-characters g c representative =
         few_arms = c.in_ok-arms.ensures.few;
         count = c.in_ok-characters.ensures.count ∙ ap length c.as_slice.ensures.value ∙ s.read.count;
         character = c.in_ok-characters.ensures.characters (place_count t) (phase_table t) divides s.list
-            (subst (AreRead (phase_table t).order (phases_at (phase_table t)) s.list) (sym c.as_slice.ensures.value) s.read);
+            (subst (AreRead (phase_table t).order (phases_at (phase_table t)) s.list) (sym c.as_slice.ensures.value)
+            s.read);
       };
       complete = s.complete;
       ordered = s.ordered;
