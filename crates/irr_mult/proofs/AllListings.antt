@@ -50,8 +50,8 @@ module _ {S : Type 0} (order : S → ℕ) (value : (n : ℕ) → S → Number n)
   different : (i j : Fin (length stars)) → IsInStar (stands_for A.group) (wave i) (wave j) → i ≡ j
   different i j h =
       let e = same_representative (stands_for A.group) (space_group A.group).is_group (wave i) (wave j)
-      (t.star i).has.representative
-      (t.star j).has.representative h in
+      (t.star i).representative
+      (t.star j).representative h in
       elim (cases_lt (to_nat i) (to_nat j)) [
         | inl l ↦ absurd (not_before i j e l)
         | inr f ↦ (elim (cases_lt (to_nat j) (to_nat i)) [
@@ -89,7 +89,7 @@ module _ {S : Type 0} (order : S → ℕ) (value : (n : ℕ) → S → Number n)
     list = λ i. (t.star i).has.characters.list;
     complete = λ i. (t.star i).has.complete;
     ordered = λ i. (t.star i).has.ordered;
-    representative = λ i. (t.star i).has.representative;
+    representative = λ i. (t.star i).representative;
     mult = mult;
     multiplicity = λ i m. star_multiplicity (stands_for A.group) (space_group A.group).is_group
         (has_canonical A.group) (sign_of A.group.phase) A.order

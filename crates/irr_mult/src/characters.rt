@@ -13,7 +13,6 @@ ghost use Rattle.irr_little.specs.Arms.{AreArms};
 ghost use Rattle.irr_little.specs.Table.{IsLittleTable};
 ghost use Rattle.irr_climb.specs.Families.{AreRead};
 ghost use Rattle.irr_climb.specs.Lists.{IsSmallList};
-ghost use Rattle.irr_full.specs.Parts.{IsRepresentative};
 ghost use Rattle.irr_chain.specs.NormalSubgroup.{HasSteps};
 ghost use Rattle.irr_little.specs.declared.arms.Arm.{Arm};
 ghost use Rattle.irr_mult.specs.declared.star.SmallCharacter.{SmallCharacter};
@@ -107,8 +106,7 @@ pub fn star_characters<S: Lift>(
     requires limits { IsWithinLimits wave.now }
     requires order { (n : ℕ) × IsOrder (stands_for group.now) (wave_vector wave.now) n × (n ∣ order.now.n) }
     ensures wave { IfOk result (λ c. c.wave ≡ wave.now) }
-    ensures characters { IsRepresentative (stands_for group.now) (wave_vector wave.now)
-        → IfOk result (AreStarCharacters S.order_of S.value group.now order.now.n) }
+    ensures characters { IfOk result (AreStarCharacters S.order_of S.value group.now order.now.n) }
 {
     let table = little_table(alloc, group, wave)?;
     let arms = arm_count(alloc, group, wave)?;

@@ -45,7 +45,7 @@ small_characters-requires g c =
     )
 
 pub returns-clause-characters : goal.returns-clause-characters
-returns-clause-characters g c representative =
+returns-clause-characters g c =
     let r = c.requires.order in
     let group = c.args.group.now in
     let wave = c.args.wave.now in
@@ -58,7 +58,6 @@ returns-clause-characters g c representative =
     let divides = order_divides group wave t little order.n r.0 r.1 r.2 in record {
       star = subst (StarOn (sign_of group.phase) (stands_for group) (wave_vector wave) (phase_table t)) arms.1
           (star_here group wave arms.0 t arms.2 little);
-      representative = representative;
       characters = record {
         positive = order.positive;
         divides = divides;
