@@ -16,3 +16,6 @@ pub use irr_memory::Memory;
 pub use listing::{all_parts, push_parts};
 pub use part::{PairParts, Part, RepParts};
 pub use star::{SmallCharacter, StarCharacters};
+
+#[cfg(test)]
+mod tests;
