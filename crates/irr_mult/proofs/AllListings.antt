@@ -49,8 +49,9 @@ module _ {S : Type 0} (order : S → ℕ) (value : (n : ℕ) → S → Number n)
 
   different : (i j : Fin (length stars)) → IsInStar (stands_for A.group) (wave i) (wave j) → i ≡ j
   different i j h =
-      let e = same_representative (stands_for A.group) (space_group A.group).is_group (wave i) (wave j) (t.star i).has.representative
-      (t.star j).has.representative h in
+      let e = same_representative (stands_for A.group) (space_group A.group).is_group (wave i) (wave j)
+      (t.star i).representative
+      (t.star j).representative h in
       elim (cases_lt (to_nat i) (to_nat j)) [
         | inl l ↦ absurd (not_before i j e l)
         | inr f ↦ (elim (cases_lt (to_nat j) (to_nat i)) [
@@ -88,9 +89,10 @@ module _ {S : Type 0} (order : S → ℕ) (value : (n : ℕ) → S → Number n)
     list = λ i. (t.star i).has.characters.list;
     complete = λ i. (t.star i).has.complete;
     ordered = λ i. (t.star i).has.ordered;
-    representative = λ i. (t.star i).has.representative;
+    representative = λ i. (t.star i).representative;
     mult = mult;
-    multiplicity = λ i m. star_multiplicity (stands_for A.group) (space_group A.group).is_group (has_canonical A.group) (sign_of A.group.phase) A.order
+    multiplicity = λ i m. star_multiplicity (stands_for A.group) (space_group A.group).is_group
+        (has_canonical A.group) (sign_of A.group.phase) A.order
         A.positive A.at A.is_representation
         A.has_diagonal (star_on (t.star i).has.star) (t.star i).has.characters.divides (t.star i).has.characters.list
         (t.star i).has.complete (t.star i).has.ordered
@@ -145,10 +147,12 @@ module _ {S : Type 0} (order : S → ℕ) (value : (n : ℕ) → S → Number n)
         → ArePushed order value (item stars i) (traces_at traces (to_nat i)) old new → AllSoFar k old
         → AllSoFar (k + 1) new
     unfolding AllSoFar Here
-    more_of_all k e old new p a = from_pushed (p A.order (t.star i).has.characters (t.star i).row (mult i) (dimension i))
+    more_of_all k e old new p a = from_pushed (p A.order (t.star i).has.characters (t.star i).row (mult i)
+        (dimension i))
       where
         from_pushed : (pushed : List Part) × (new ≡ old ++ pushed)
-            × IsListing (listed_part (t.star i).has.characters (mult i)) (λ m. 0 < mult i m) (λ m n. to_nat m < to_nat n)
+            × IsListing (listed_part (t.star i).has.characters (mult i)) (λ m. 0 < mult i m)
+            (λ m n. to_nat m < to_nat n)
             (map part_of pushed)
             → IsListing part_at (Stands (k + 1)) Before (map part_of new)
         from_pushed (pushed, f, h) = subst (IsListing part_at (Stands (k + 1)) Before)
@@ -168,7 +172,8 @@ module _ {S : Type 0} (order : S → ℕ) (value : (n : ℕ) → S → Number n)
   pub all_of_all : (k : ℕ) → k ≡ length stars → (new : List Part) → AllSoFar k new
       → ArePartsOf (sign_of A.group.phase) (stands_for A.group) A.positive A.at (item (map part_of new))
   unfolding AllSoFar
-  all_of_all k e new h = parts_of_stars (stands_for A.group) (space_group A.group).is_group (has_canonical A.group) (sign_of A.group.phase) A.order A.positive
+  all_of_all k e new h = parts_of_stars (stands_for A.group) (space_group A.group).is_group (has_canonical A.group)
+      (sign_of A.group.phase) A.order A.positive
       A.at A.is_representation A.has_diagonal
       stars_of lists_of (item (map part_of new)) (record {
         from_star = λ u. ((h.index u).0, (h.index u).1, h.is u);

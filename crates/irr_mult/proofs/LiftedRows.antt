@@ -6,7 +6,6 @@
 --   trace_row                    the traces of a sized family are a small row
 --   lifted_character             the traces of the lifted representation
 use Rattle.std.proofs.Common.{◌≡◌, refl, sym, ◌∙◌, ap, ap₂, subst, ℕ, ◌+◌, ◌*◌, ◌<◌, ◌≤◌, ◌^◌, List, [], ◌∷◌, ◌++◌, length, get_or, map, take, arith}
-use native.Mathlib.Nat as Nat
 use Rattle.std.specs.List.{All}
 use Rattle.std.specs.Int.{◌∣◌}
 use Rattle.std.proofs.lemmas.List.{get_or-map, length-map, map-append, take_all, take_more}
@@ -14,7 +13,7 @@ use Rattle.std.proofs.lemmas.List.Elements.{All-get_or, All-nil, All-push}
 use Rattle.irr_algebra.specs.Fin.{Fin, to_nat}
 use Rattle.irr_algebra.specs.Matrix.{trace}
 use Rattle.irr_algebra.proofs.Homomorphisms.{map-trace}
-use Rattle.irr_algebra.proofs.Indices.{from_nat, to_nat-from_nat, to_nat-lt}
+use Rattle.irr_algebra.proofs.Indices.{from_nat, to_nat-lt}
 use Rattle.irr_number.specs.Number.{Number, numbers}
 use Rattle.irr_number.specs.Lift.{lift, lift_of}
 use Rattle.irr_number.proofs.Lifts.{lift_of-lift}
@@ -34,7 +33,6 @@ use Rattle.irr_climb.specs.Sizes.{IsSized}
 use Rattle.irr_char.specs.Characters.{IsRowOf, IsSmallRow}
 use Rattle.irr_char.proofs.AverageTerms.{item-order, item-small}
 use Rattle.irr_mult.specs.Listing.{item}
-use Rattle.irr_mult.proofs.Listings.{item-get}
 
 module _ {S : Type 0} (order : S → ℕ) (value : (n : ℕ) → S → Number n) (M : ℕ) (row : List S) where
   abbrev pub lifted_number : S → Number M
@@ -47,16 +45,19 @@ module _ {S : Type 0} (order : S → ℕ) (value : (n : ℕ) → S → Number n)
   pub lifted_none : LiftedSoFar 0 []
   lifted_none = record { orders = All-nil (λ x. order x ≡ M); values = refl }
 
-  pub lifted_more : (k : ℕ) → k < length row → (x : S) → x ≡ get_or row k x → (y : S) → order y ≡ M → value M y ≡ lifted_number x
+  pub lifted_more : (k : ℕ) → k < length row → (x : S) → x ≡ get_or row k x → (y : S) → order y ≡ M
+      → value M y ≡ lifted_number x
       → (made after : List S) → after ≡ made ++ y ∷ [] → LiftedSoFar k made → LiftedSoFar (k + 1) after
   lifted_more k l x is y o v made after e f = record {
     orders = subst (All (λ z. order z ≡ M)) (sym e) (All-push (λ z. order z ≡ M) made y f.orders o);
     values = ap (map (value M)) e ∙ map-append (value M) made (y ∷ [])
         ∙ ap₂ (λ xs z. xs ++ z ∷ []) f.values (v ∙ ap lifted_number is)
-        ∙ sym (ap (map lifted_number) (take_more row k x l) ∙ map-append lifted_number (take k row) (get_or row k x ∷ []));
+        ∙ sym (ap (map lifted_number) (take_more row k x l) ∙ map-append lifted_number (take k row)
+        (get_or row k x ∷ []));
   }
 
-  pub lifted_all : (k : ℕ) → k ≡ length row → (made : List S) → LiftedSoFar k made → (n h : ℕ) (f : Fin h → Number n) (p : 0 < n) (v : n ∣ M)
+  pub lifted_all : (k : ℕ) → k ≡ length row → (made : List S) → LiftedSoFar k made
+      → (n h : ℕ) (f : Fin h → Number n) (p : 0 < n) (v : n ∣ M)
       → IsRowOf {h = h} order value n f row → IsRowOf {h = h} order value M (λ i. (lift n M p v).map (f i)) made
   lifted_all k done made so n h f p v r = record {
     count = sym (length-map made (value M)) ∙ ap length all ∙ length-map row lifted_number ∙ r.count;
@@ -78,24 +79,28 @@ module _ {S : Type 0} (order : S → ℕ) (value : (n : ℕ) → S → Number n)
           ∙ ap (lift n M p v).map (sym (get_or-map (value n) row (to_nat i) d (numbers n).zero below) ∙ r.numbers_at i)
 
   -- sizes of numbers of a small row
-  pub small_lift : (n h : ℕ) → IsSmallRow order value n h row → (k : ℕ) → k < length row → (x : S) → x ≡ get_or row k x → 0 < order x
+  pub small_lift : (n h : ℕ) → IsSmallRow order value n h row → (k : ℕ) → k < length row → (x : S)
+      → x ≡ get_or row k x → 0 < order x
       → order x ≤ 12000 → size (order x) (value (order x) x) ≤ 2 ^ 100
   small_lift n h small k l x is positive limited =
       let below : k < h = subst (λ m. k < m) small.count l in
       let o = item-order order value n h row small k below x is in
       let sum : IsRootSum (order x) 48 1 (value (order x) x) = subst (λ m. IsRootSum m 48 1 (value m x)) (sym o)
       (item-small order value n h row small k below x is) in
-      let a : size (order x) (value (order x) x) ≤ 48 * order x = size_of_IsRootSum (order x) positive 48 1 (value (order x) x) sum in
+      let a : size (order x) (value (order x) x) ≤ 48 * order x = size_of_IsRootSum (order x) positive 48 1
+      (value (order x) x) sum in
       omega (arith, a, limited)
 
-module _ {S : Type 0} {G : Ghosts S} {h : ℕ} (T : PhaseTable h) (d : ℕ) (D : Representation (phases_at T) d) (f : Family S G)
+module _ {S : Type 0} {G : Ghosts S} {h : ℕ} (T : PhaseTable h) (d : ℕ) (D : Representation (phases_at T) d)
+    (f : Family S G)
     (is : IsRead T.order (phases_at T) D f) where
   shape_here : HasShape T.order h f.dim f.mats.items
   shape_here = subst (λ k. HasShape T.order h k f.mats.items) (sym is.size) is.shape
 
   -- the traces of a sized family are a small row
   pub trace_row : d ≤ 48 → IsSized T.order h f → (row : List S)
-      → ((n g : ℕ) → HasShape n g f.dim f.mats.items → IsRowOf {h = g} G.order_of G.value n (λ i. trace (matrix_at n f.dim f.mats.items i)) row)
+      → ((n g : ℕ) → HasShape n g f.dim f.mats.items → IsRowOf {h = g} G.order_of G.value n
+      (λ i. trace (matrix_at n f.dim f.mats.items i)) row)
       → (slice : List S) → slice ≡ row → IsSmallRow G.order_of G.value T.order h slice
   trace_row few sized row all slice same =
       let r = all T.order h shape_here in

@@ -4,8 +4,8 @@
 --   StarOn s G k T a             what makes a star of k with the table T and a arms
 --   star_on S                    that star
 --   AreStarCharacters .. group M c   c has the characters, over the numbers of order M, of a complete list in canonical order
---                                at the representative of a star
---   IsTraced .. A c traces       so on one of the stars of A, whose part there has these traces
+--                                at its wave vector
+--   IsTraced .. A c traces       c is so at the representative of its star, where the part of A has these traces
 --   traces_at traces i           those at the place i
 --   AreTraced .. A stars traces  so at each of the stars on which A stands, which are in the order of their wave vectors
 use Rattle.std.specs.Prelude.{ℕ, ◌≡◌, ◌<◌, List, [], length, map, slice_index_or, Vec}
@@ -74,7 +74,6 @@ star_on {h = h} {T = T} {a = a} S = record {
 pub record AreStarCharacters {S : Type 0} (order : S → ℕ) (value : (n : ℕ) → S → Number n) (group : Group) (M : ℕ)
     (c : StarCharacters S) : Type 0 where
   pub star : StarOn (sign_of group.phase) (stands_for group) (wave_vector c.wave) (phase_table c.table) c.arms
-  pub representative : IsRepresentative (stands_for group) (wave_vector c.wave)
   pub characters : HasCharacters order value M c
   pub complete : IsCompleteList (phase_table c.table) characters.list
   pub ordered : IsInOrder (phase_table c.table) characters.list
@@ -82,6 +81,7 @@ pub record AreStarCharacters {S : Type 0} (order : S → ℕ) (value : (n : ℕ)
 pub record IsTraced {S : Type 0} (order : S → ℕ) (value : (n : ℕ) → S → Number n) (A : SpaceRepresentation)
     (c : StarCharacters S) (traces : List S) : Type 0 where
   pub has : AreStarCharacters order value A.group A.order c
+  pub representative : IsRepresentative (stands_for A.group) (wave_vector c.wave)
   pub row : IsPartRow has.characters traces
   pub places : Fin row.count → Fin A.size
   pub is_part : IsPartOf (star_on has.star) A.order has.characters.divides A.at places row.part
