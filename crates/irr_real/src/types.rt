@@ -27,6 +27,18 @@ use irr_memory::Memory;
 use irr_rep::{Family, Twisted};
 use std::alloc::Global;
 
+// A count as a number.
+fn as_number<S: Scalar>(alloc: Global, order: &Order, count: u32) -> Result<S, Memory>
+    requires admitted { S.admits order.now.n }
+    requires within { count ≤ 48 }
+    ensures order { IfOk result (λ x. S.order_of x ≡ order.now.n) }
+    ensures value { let n = order.now.n in IfOk result (λ x. S.value n x ≡ whole (numbers n) count) }
+{
+    let one = S::one(alloc, order)?;
+    let number = one.scale(alloc, i64::from(count), 1)?;
+    Ok(number)
+}
+
 // The type whose number times `count` is the sum: 1, -1 or 0.
 fn type_of_sum<S: Scalar>(alloc: Global, order: &Order, sum: &S, count: u32) -> Result<i8, Memory>
     requires order { S.order_of sum.now ≡ order.now.n }
@@ -37,8 +49,7 @@ fn type_of_sum<S: Scalar>(alloc: Global, order: &Order, sum: &S, count: u32) -> 
         → S.value n sum.now ≡ (numbers n).mul (whole (numbers n) count) (type_number (numbers n) x)
         → IfOk result (λ r. r ≡ type_integer x) }
 {
-    let one = S::one(alloc, order)?;
-    let whole = one.scale(alloc, i64::from(count), 1)?;
+    let whole = as_number(alloc, order, count)?;
     let less = sum.sub(alloc, &whole)?;
     if less.is_zero() {
         return Ok(1);
