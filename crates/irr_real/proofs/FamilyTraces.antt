@@ -85,8 +85,8 @@ module _ {X : Type 0} {V : Ghosts X} {h : ℕ} (T : PhaseTable h) (M : ℕ) (f :
           subst (IsRootSum M 48 1) (sym (trace_value M is.small.at f is.family place m at p.0 p.1 x v))
           (IsRootSum-more M 48 is.family.few (trace-IsRootSum M positive T is.divides is.small p.0))
 
-pub short_traces : (M d s e : ℕ) (a : Matrix (numbers M) d d) → M ≤ 12000 → d ≤ 48 → s ≤ 2 ^ 30 → e ≤ 4096 → IsWithin M s e a
-    → TraceFits M a
+pub short_traces : (M d s e : ℕ) (a : Matrix (numbers M) d d) → M ≤ 12000 → d ≤ 48 → s ≤ 2 ^ 30 → e ≤ 4096
+    → IsWithin M s e a → TraceFits M a
 short_traces M d s e a limited few short small w = record {
   s = s;
   d = e;

@@ -136,8 +136,8 @@ module _ {S : Type 0} {G : Ghosts S} {h : ℕ} (T : PhaseTable h) (n : ℕ) (lim
       shape = shape T n limited v f.dim some few f.mats.items s;
       matrices = λ i. sym (representation-at T n v f.dim f.mats.items p i);
       few = omega (arith, few);
-      fits = λ i. short_traces n f.dim 1 1 ((representation T n v f.dim f.mats.items p).at i) limited (omega (arith, few))
-          (omega arith) (omega arith)
+      fits = λ i. short_traces n f.dim 1 1 ((representation T n v f.dim f.mats.items p).at i)
+          limited (omega (arith, few)) (omega arith) (omega arith)
           (subst (IsWithin n 1 1) (sym (representation-at T n v f.dim f.mats.items p i))
           (within T n limited v f.dim some few f.mats.items s i));
     };

@@ -38,5 +38,6 @@ pub fn full_representations()
 /// The trace can be worked out where each entry of a matrix of at most 48 rows is a sum of at most 2^30 powers of z over
 /// one denominator of at most 4096.
 pub fn short_entries_have_traces()
-    ensures { (M d s e : ℕ) (a : Matrix (numbers M) d d) → M ≤ 12000 → d ≤ 48 → s ≤ 2 ^ 30 → e ≤ 4096 → IsWithin M s e a → TraceFits M a }
+    ensures { (M d s e : ℕ) (a : Matrix (numbers M) d d) → M ≤ 12000 → d ≤ 48 → s ≤ 2 ^ 30 → e ≤ 4096
+        → IsWithin M s e a → TraceFits M a }
 {}

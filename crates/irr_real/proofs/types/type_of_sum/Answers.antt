@@ -19,7 +19,8 @@ sub-requires-clause-denominators g c =
     let whole = c.in_ok-whole.whole in
     sum_denominators g.S.Scalar.value m n (g.met.S.Scalar.admitted_positive m (g.met.S.Scalar.order_admitted sum))
     c.requires.order 2304 1 48 1 sum whole c.requires.few
-    (whole_few n c.args.count (g.S.Scalar.value n whole) c.requires.within c.in_ok-whole.ensures.value) (2 ^ 60) (omega arith)
+    (whole_few n c.args.count (g.S.Scalar.value n whole) c.requires.within c.in_ok-whole.ensures.value)
+    (2 ^ 60) (omega arith)
 
 pub sub-requires-clause-sizes : goal.sub-requires-clause-sizes
 sub-requires-clause-sizes g c =
@@ -29,8 +30,8 @@ sub-requires-clause-sizes g c =
     let whole = c.in_ok-whole.whole in
     sum_sizes g.S.Scalar.value m n (g.met.S.Scalar.admitted_positive m (g.met.S.Scalar.order_admitted sum))
     c.requires.order 2304 1 48 1 sum whole c.requires.few
-    (whole_few n c.args.count (g.S.Scalar.value n whole) c.requires.within c.in_ok-whole.ensures.value) (2 ^ 110)
-    (sum_room n c.args.order.now.limited)
+    (whole_few n c.args.count (g.S.Scalar.value n whole) c.requires.within c.in_ok-whole.ensures.value)
+    (2 ^ 110) (sum_room n c.args.order.now.limited)
 
 pub add-requires-clause-denominators : goal.add-requires-clause-denominators
 add-requires-clause-denominators g c =
@@ -40,7 +41,8 @@ add-requires-clause-denominators g c =
     let whole = c.in_ok-whole.whole in
     sum_denominators g.S.Scalar.value m n (g.met.S.Scalar.admitted_positive m (g.met.S.Scalar.order_admitted sum))
     c.requires.order 2304 1 48 1 sum whole c.requires.few
-    (whole_few n c.args.count (g.S.Scalar.value n whole) c.requires.within c.in_ok-whole.ensures.value) (2 ^ 60) (omega arith)
+    (whole_few n c.args.count (g.S.Scalar.value n whole) c.requires.within c.in_ok-whole.ensures.value)
+    (2 ^ 60) (omega arith)
 
 pub add-requires-clause-sizes : goal.add-requires-clause-sizes
 add-requires-clause-sizes g c =
@@ -50,8 +52,8 @@ add-requires-clause-sizes g c =
     let whole = c.in_ok-whole.whole in
     sum_sizes g.S.Scalar.value m n (g.met.S.Scalar.admitted_positive m (g.met.S.Scalar.order_admitted sum))
     c.requires.order 2304 1 48 1 sum whole c.requires.few
-    (whole_few n c.args.count (g.S.Scalar.value n whole) c.requires.within c.in_ok-whole.ensures.value) (2 ^ 110)
-    (sum_room n c.args.order.now.limited)
+    (whole_few n c.args.count (g.S.Scalar.value n whole) c.requires.within c.in_ok-whole.ensures.value)
+    (2 ^ 110) (sum_room n c.args.order.now.limited)
 
 pub returns-then-is_zero : goal.returns-then-is_zero
 returns-then-is_zero g c x e =
