@@ -3,6 +3,7 @@
 --   admitted                         what holds of the order of each number holds of the order of the family
 --   same_place                       a place of the table as one of a family with these matrices
 --   item_fits, item_few              the trace of a small representation is a sum of at most 48 powers of z
+--   short_traces                     traces of matrices of short entries
 --   root_few                         a power of z
 --   turned_few, turn_room, add_room  such a trace times a power of z, and sums of such
 use Rattle.std.proofs.Common.{◌≡◌, sym, ◌∙◌, ap, subst, refl, ℕ, ◌+◌, ◌*◌, ◌<◌, ◌≤◌, ◌^◌, List, [], ◌∷◌, length}
@@ -19,7 +20,7 @@ use Rattle.irr_space.specs.PhaseTable.{PhaseTable}
 use Rattle.irr_cyc.specs.declared.scalars.Scalar.{Ghosts}
 use Rattle.irr_mat.specs.declared.matrices.Mat.{Mat}
 use Rattle.irr_mat.specs.Entries.{first_order, matrix_of}
-use Rattle.irr_mat.specs.Size.{TraceFits}
+use Rattle.irr_mat.specs.Size.{IsWithin, TraceFits}
 use Rattle.irr_rep.specs.declared.family.Family.{Family}
 use Rattle.irr_rep.proofs.Families.{item-order, item-trace, item-trace_fits}
 use Rattle.irr_rep.proofs.MatrixForms.{order_of_matrix}
@@ -83,6 +84,21 @@ module _ {X : Type 0} {V : Ghosts X} {h : ℕ} (T : PhaseTable h) (M : ℕ) (f :
       item_few positive x v = let p = place_at place l in
           subst (IsRootSum M 48 1) (sym (trace_value M is.small.at f is.family place m at p.0 p.1 x v))
           (IsRootSum-more M 48 is.family.few (trace-IsRootSum M positive T is.divides is.small p.0))
+
+pub short_traces : (M d s e : ℕ) (a : Matrix (numbers M) d d) → M ≤ 12000 → d ≤ 48 → s ≤ 2 ^ 30 → e ≤ 4096
+    → IsWithin M s e a → TraceFits M a
+short_traces M d s e a limited few short small w = record {
+  s = s;
+  d = e;
+  within = w;
+  denominators = (let x : e * e ≤ 4096 * 4096 = Nat.mul-le-mul small small in
+      let y : 4096 * 4096 ≤ 2 ^ 60 = omega arith in
+      Nat.le_trans x y);
+  sums = (let x : d * s * M * e ≤ 48 * 2 ^ 30 * 12000 * 4096
+      = Nat.mul-le-mul (Nat.mul-le-mul (Nat.mul-le-mul few short) limited) small in
+      let y : 48 * 2 ^ 30 * 12000 * 4096 < 2 ^ 110 = omega arith in
+      Nat.lt_of_le_of_lt x y);
+}
 
 pub root_few : (n e : ℕ) (x : Number n) → x ≡ root_power n e → IsRootSum n 1 1 x
 root_few n e x is = subst (IsRootSum n 1 1) (sym is) (IsRootSum-root n e)

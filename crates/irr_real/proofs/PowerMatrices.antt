@@ -30,6 +30,7 @@ use Rattle.irr_rep.specs.Family.{HasShape, IsRepresentationOf, matrix_at, repres
 use Rattle.irr_rep.proofs.Families.{matrix_at-item, representation-at}
 use Rattle.irr_rep.proofs.SingleEntries.{item}
 use Rattle.irr_real.specs.Families.{IsSmallFamily}
+use Rattle.irr_real.proofs.FamilyTraces.{short_traces}
 
 module _ {S : Type 0} (order : S → ℕ) (value : (n : ℕ) → S → Number n) (n : ℕ) where
   pub record PowersSoFar (k : ℕ) (xs : List S) : Type 0 where
@@ -87,11 +88,6 @@ module _ {S : Type 0} {G : Ghosts S} (n d : ℕ) where
     each = subst (All IsPowerMatrix) (sym e) (All-push IsPowerMatrix mats m s.each is);
   }
 
-trace_room : (d n : ℕ) → d ≤ 2 → n ≤ 12000 → d * 1 * n * 1 < 2 ^ 110
-trace_room d n few limited =
-    let a : d * 1 * n ≤ 2 * 1 * 12000 = Nat.mul-le-mul (Nat.mul-le-mul_right 1 few) limited in
-    omega (arith, a)
-
 module _ {S : Type 0} {G : Ghosts S} {h : ℕ} (T : PhaseTable h) (n : ℕ) (limited : n ≤ 12000) (v : T.order ∣ n)
     (d : ℕ) (some : 0 < d) (few : d ≤ 2)
     (mats : List (Mat S G)) (s : MatricesSoFar n d h mats) where
@@ -140,13 +136,9 @@ module _ {S : Type 0} {G : Ghosts S} {h : ℕ} (T : PhaseTable h) (n : ℕ) (lim
       shape = shape T n limited v f.dim some few f.mats.items s;
       matrices = λ i. sym (representation-at T n v f.dim f.mats.items p i);
       few = omega (arith, few);
-      fits = λ i. record {
-        s = 1;
-        d = 1;
-        within = subst (IsWithin n 1 1) (sym (representation-at T n v f.dim f.mats.items p i))
-            (within T n limited v f.dim some few f.mats.items s i);
-        denominators = omega arith;
-        sums = trace_room f.dim n few limited;
-      };
+      fits = λ i. short_traces n f.dim 1 1 ((representation T n v f.dim f.mats.items p).at i)
+          limited (omega (arith, few)) (omega arith) (omega arith)
+          (subst (IsWithin n 1 1) (sym (representation-at T n v f.dim f.mats.items p i))
+          (within T n limited v f.dim some few f.mats.items s i));
     };
   }

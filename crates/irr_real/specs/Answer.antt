@@ -1,8 +1,8 @@
 -- The type of the full representation of a small one, as the program answers it.
 --   IsTypeOf S M v D r         r is the number (1, -1 or 0) of the one type of the full representations of D over the
 --                              star S
---   IsTypeOverEach S M v D r   the same over each multiple of the order M, for a small representation D over the table's
---                              own order
+--   IsTypeOverEach S M v D r   the same over each multiple of the order M, for a small representation D over the order
+--                              of the table
 use Rattle.std.specs.Prelude.{ℕ, ℤ, ◌≡◌, ◌<◌}
 use Rattle.std.specs.Int.{◌∣◌}
 use Rattle.irr_algebra.specs.Matrix.{Matrix}

@@ -1,5 +1,5 @@
 -- Small representations as the program holds them.
---   IsFamilyOf M D f         the family f has the matrices D, over the numbers of order M: at most 48 rows, with entries
+--   IsFamilyOf M D f         the family f has the matrices D, over the numbers of order M: at most 48 rows, and entries
 --                            of a size that lets traces be worked out
 --   IsSmallFamily T M f      f is so for a small representation of the table T, over the order M that the order of T
 --                            divides

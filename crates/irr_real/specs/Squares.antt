@@ -1,7 +1,7 @@
 -- The squares of operations g that carry k to -k, and the sum of their traces (Bradley and Cracknell, sections 4.6
 -- and 7.6).
---   IsSquareAt group k t M p q x      for the canonical operation g with the number p: g g = (1|v) g_q for the operation
---                                     g_q at the place q of t, and z^x = exp(2 pi i s k.v), a number of order M
+--   IsSquareAt group k t M p q x      for the canonical operation g with the number p: g g = (1|v) g_q, for the
+--                                     operation g_q at the place q of t, and z^x = exp(2 pi i s k.v), a number of order M
 --   IsSquareTrace group k t M D p c   c is tr D(g g) = z^x tr D(q)
 --   IsReversalSum group k t M D c     c is the sum of these over all canonical operations that carry k to -k
 use Rattle.std.specs.Prelude.{ℕ, ◌≡◌, ◌<◌, List, length, slice_index, slice_index_or}

@@ -1,5 +1,5 @@
 // Laws of the types of full representations of groups in the program.
-ghost use Rattle.std.specs.Prelude.{ℕ, ◌≡◌, ◌<◌, List};
+ghost use Rattle.std.specs.Prelude.{ℕ, ◌≡◌, ◌<◌, ◌≤◌, ◌^◌, List};
 ghost use Rattle.std.specs.Int.{◌∣◌};
 ghost use Rattle.irr_algebra.specs.Matrix.{Matrix};
 ghost use Rattle.irr_algebra.specs.Pair.{times};
@@ -8,6 +8,7 @@ ghost use Rattle.irr_theory.specs.FactorSystem.{Representation};
 ghost use Rattle.irr_space.specs.Operation.{Operation, WaveVector};
 ghost use Rattle.irr_space.specs.PhaseTable.{PhaseTable, phases_over};
 ghost use Rattle.irr_seitz.specs.PhaseMeaning.{sign_of};
+ghost use Rattle.irr_mat.specs.Size.{IsWithin, TraceFits};
 ghost use Rattle.irr_rep.specs.Twisted.{operation_places, phase_table, place_count};
 ghost use Rattle.irr_rep.specs.declared.table.Twisted.{Twisted};
 ghost use Rattle.irr_close.specs.StandsFor.{stands_for};
@@ -32,4 +33,11 @@ pub fn full_representations()
     ensures { (group : Group) (k : WaveVector) (U : Star (sign_of group.phase) (stands_for group) k)
         (M : ℕ) → 0 < M → (v : U.table.order ∣ M) (d : ℕ) (D : Representation (phases_over U.table M v) d)
         → (A : Operation → Matrix (numbers M) (times U.arms d) (times U.arms d)) × IsFullOf U M v D A }
+{}
+
+/// The trace can be worked out where each entry of a matrix of at most 48 rows is a sum of at most 2^30 powers of z over
+/// one denominator of at most 4096.
+pub fn short_entries_have_traces()
+    ensures { (M d s e : ℕ) (a : Matrix (numbers M) d d) → M ≤ 12000 → d ≤ 48 → s ≤ 2 ^ 30 → e ≤ 4096
+        → IsWithin M s e a → TraceFits M a }
 {}

@@ -9,7 +9,7 @@ mod types;
 mod waves;
 
 pub use irr_memory::Memory;
-pub use laws::{full_representations, stars_of_tables};
+pub use laws::{full_representations, short_entries_have_traces, stars_of_tables};
 pub use types::reality;
 
 #[cfg(test)]

@@ -27,6 +27,18 @@ use irr_memory::Memory;
 use irr_rep::{Family, Twisted};
 use std::alloc::Global;
 
+// A count as a number.
+fn as_number<S: Scalar>(alloc: Global, order: &Order, count: u32) -> Result<S, Memory>
+    requires admitted { S.admits order.now.n }
+    requires within { count ≤ 48 }
+    ensures order { IfOk result (λ x. S.order_of x ≡ order.now.n) }
+    ensures value { let n = order.now.n in IfOk result (λ x. S.value n x ≡ whole (numbers n) count) }
+{
+    let one = S::one(alloc, order)?;
+    let number = one.scale(alloc, i64::from(count), 1)?;
+    Ok(number)
+}
+
 // The type whose number times `count` is the sum: 1, -1 or 0.
 fn type_of_sum<S: Scalar>(alloc: Global, order: &Order, sum: &S, count: u32) -> Result<i8, Memory>
     requires order { S.order_of sum.now ≡ order.now.n }
@@ -37,8 +49,7 @@ fn type_of_sum<S: Scalar>(alloc: Global, order: &Order, sum: &S, count: u32) -> 
         → S.value n sum.now ≡ (numbers n).mul (whole (numbers n) count) (type_number (numbers n) x)
         → IfOk result (λ r. r ≡ type_integer x) }
 {
-    let one = S::one(alloc, order)?;
-    let whole = one.scale(alloc, i64::from(count), 1)?;
+    let whole = as_number(alloc, order, count)?;
     let less = sum.sub(alloc, &whole)?;
     if less.is_zero() {
         return Ok(1);
@@ -51,11 +62,11 @@ fn type_of_sum<S: Scalar>(alloc: Global, order: &Order, sum: &S, count: u32) -> 
 }
 
 /// The type of the full representation of a small one over the whole group (Bradley and Cracknell, sections 4.6 and
-/// 7.6): 1 where it has an invariant symmetric form, -1 where it has an invariant antisymmetric one, and 0 where it has
-/// none. `t` is the table of the little group of k, and `f` a small representation of it, of at most 48 rows and over an
-/// order that the order of t divides, with which only numbers intertwine it. It is found by Herring's sum of tr D(g g)
-/// over the canonical operations g = (R|v) with kR equivalent to -k, which is this number times the number of operations
-/// of the little group. The error is want of memory.
+/// 7.6): 1 where it has an invariant symmetric form, -1 where it has an invariant antisymmetric one, and 0 where it
+/// has none. `t` is the table of the little group of k, and `f` a small representation of it, of at most 48 rows and
+/// over an order that the order of t divides, such that only multiples of one matrix intertwine it with itself. The type
+/// is found by Herring's sum of tr D(g g) over the canonical operations g = (R|v) with kR equivalent to -k: the sum is
+/// this number times the number of operations of the little group. The error is want of memory.
 pub fn reality<S: Scalar>(
     alloc: Global,
     group: &Group,
@@ -67,10 +78,12 @@ pub fn reality<S: Scalar>(
     requires table { IsLittleTable group.now (wave_vector k.now) (operation_places t.now) (phase_table t.now) }
     requires family { (M : ℕ) × IsSmallFamily (phase_table t.now) M f.now }
     ensures type_of { (U : Star (sign_of group.now.phase) (stands_for group.now) (wave_vector k.now))
-        (M : ℕ) (v : U.table.order ∣ M) (d : ℕ) (D : Representation (phases_over U.table M v) d) → IsFamilyOf M D.at f.now → IsSimple D.at
+        (M : ℕ) (v : U.table.order ∣ M) (d : ℕ) (D : Representation (phases_over U.table M v) d)
+        → IsFamilyOf M D.at f.now → IsSimple D.at
         → IfOk result (IsTypeOf U M v D) }
     ensures every_order { (U : Star (sign_of group.now.phase) (stands_for group.now) (wave_vector k.now))
-        (M : ℕ) (v : U.table.order ∣ M) (d : ℕ) (D : Representation (phases_at U.table) d) → IsFamilyOf M (over U.table M v D).at f.now → IsSimple D.at
+        (M : ℕ) (v : U.table.order ∣ M) (d : ℕ) (D : Representation (phases_at U.table) d)
+        → IsFamilyOf M (over U.table M v D).at f.now → IsSimple D.at
         → IfOk result (IsTypeOverEach U M v D) }
 {
     let order = Order::new(alloc, f.mats[0].at(0, 0).order())?;

@@ -20,7 +20,8 @@ use irr_rat::Vec3;
 pub(crate) fn image(group: &Group, place: usize, k: &Wave) -> Wave
     requires limits { IsWithinLimits k.now }
     requires place { place < length group.now.ops.items }
-    ensures carries { HoldsAt (λ g. Carries (stands_for group.now) (operation g) (wave_vector k.now) (wave_vector result))
+    ensures carries { HoldsAt
+        (λ g. Carries (stands_for group.now) (operation g) (wave_vector k.now) (wave_vector result))
         group.now.ops.items place }
     ensures limits { IsWithinLimits result }
 {
