@@ -46,7 +46,8 @@ fn little_table(alloc: Global, group: &Group, wave: &Wave) -> Result<Twisted, Me
 // The number of arms of the star of a wave vector. The error is want of memory.
 fn arm_count(alloc: Global, group: &Group, wave: &Wave) -> Result<u32, Memory>
     requires limits { IsWithinLimits wave.now }
-    ensures arms { IfOk result (λ n. (arms : List Arm) × (length arms ≡ n) × AreArms group.now (wave_vector wave.now) arms) }
+    ensures arms { IfOk result (λ n.
+        (arms : List Arm) × (length arms ≡ n) × AreArms group.now (wave_vector wave.now) arms) }
     ensures few { IfOk result (λ n. n ≤ 48) }
 {
     let arms = star(alloc, group, wave)?;
@@ -84,8 +85,10 @@ fn small_characters<S: Lift>(
 ) -> Result<Vec<SmallCharacter<S>>, Memory>
     requires { (h : ℕ) × (T : PhaseTable h) × (h ≤ 48) × (T.order ∣ order.now.n) × IsSmallList T families.now }
     ensures count { IfOk result (λ cs. length cs.items ≡ length families.now) }
-    ensures characters { (h : ℕ) (T : PhaseTable h) (v : T.order ∣ order.now.n) (L : Representations (phases_at T)) → AreRead T.order (phases_at T) L families.now
-        → IfOk result (λ cs. (m : Fin L.count) (e : SmallCharacter S) → IsCharacterOf S.order_of S.value T order.now.n v (L.member m) (slice_index_or cs.items (to_nat m) e)) }
+    ensures characters { (h : ℕ) (T : PhaseTable h) (v : T.order ∣ order.now.n) (L : Representations (phases_at T))
+        → AreRead T.order (phases_at T) L families.now
+        → IfOk result (λ cs. (m : Fin L.count) (e : SmallCharacter S)
+        → IsCharacterOf S.order_of S.value T order.now.n v (L.member m) (slice_index_or cs.items (to_nat m) e)) }
 {
     let mut characters = Vec::new(alloc);
     for family in families {

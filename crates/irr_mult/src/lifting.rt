@@ -21,8 +21,10 @@ use std::alloc::Global;
 // The numbers of a row, as numbers of a multiple of their order.
 fn lifted<S: Lift>(alloc: Global, order: &Order, row: &[S]) -> Result<Vec<S>, Memory>
     requires { (n h : ℕ) × (n ∣ order.now.n) × IsSmallRow S.order_of S.value n h row.now }
-    ensures { (n h : ℕ) (f : Fin h → Number n) (p : 0 < n) (v : n ∣ order.now.n) → IsRowOf {h = h} S.order_of S.value n f row.now
-        → IfOk result (λ xs. IsRowOf {h = h} S.order_of S.value order.now.n (λ i. (lift n order.now.n p v).map (f i)) xs.items) }
+    ensures { (n h : ℕ) (f : Fin h → Number n) (p : 0 < n) (v : n ∣ order.now.n)
+        → IsRowOf {h = h} S.order_of S.value n f row.now
+        → IfOk result (λ xs.
+        IsRowOf {h = h} S.order_of S.value order.now.n (λ i. (lift n order.now.n p v).map (f i)) xs.items) }
 {
     let mut made = Vec::new(alloc);
     for x in row {
@@ -39,7 +41,8 @@ pub(crate) fn small_character<S: Lift>(
     order: &Order,
     f: &Family<S>,
 ) -> Result<SmallCharacter<S>, Memory>
-    requires { (h : ℕ) × (T : PhaseTable h) × (h ≤ 48) × (T.order ∣ order.now.n) × (d : ℕ) × (D : Representation (phases_at T) d) × (d ≤ 48)
+    requires { (h : ℕ) × (T : PhaseTable h) × (h ≤ 48) × (T.order ∣ order.now.n) × (d : ℕ)
+        × (D : Representation (phases_at T) d) × (d ≤ 48)
         × IsRead T.order (phases_at T) D f.now × IsSized T.order h f.now }
     ensures { (h : ℕ) (T : PhaseTable h) (v : T.order ∣ order.now.n) (d : ℕ) (D : Representation (phases_at T) d)
         → IsRead T.order (phases_at T) D f.now → IfOk result (IsCharacterOf S.order_of S.value T order.now.n v D) }

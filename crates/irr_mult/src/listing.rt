@@ -61,7 +61,8 @@ pub fn all_parts<S: Scalar>(
 ) -> Result<Vec<Part>, Memory>
     requires { (A : SpaceRepresentation) × AreTraced S.order_of S.value A stars.now traces.now }
     ensures { (A : SpaceRepresentation) → AreTraced S.order_of S.value A stars.now traces.now
-        → IfOk result (λ parts. ArePartsOf (sign_of A.group.phase) (stands_for A.group) A.positive A.at (item (map part_of parts.items))) }
+        → IfOk result (λ parts.
+        ArePartsOf (sign_of A.group.phase) (stands_for A.group) A.positive A.at (item (map part_of parts.items))) }
 {
     let mut parts = Vec::new(alloc);
     for i in 0..stars.len() {

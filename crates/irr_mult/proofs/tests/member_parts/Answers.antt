@@ -1,5 +1,5 @@
 -- The part is the member itself.
-use Rattle.std.proofs.Common.{◌≤◌, arith}
+use Rattle.std.proofs.Common.{arith}
 use Rattle.irr_space.specs.CompleteList.{over}
 use Rattle.irr_rep.specs.Twisted.{phase_table}
 use Rattle.irr_mult.proofs.StarListings.{left_row, member}
