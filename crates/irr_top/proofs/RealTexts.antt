@@ -5,7 +5,8 @@
 --   real_text_at           the text is that of types
 --   real_reply_of          the text is the reply for the group of generators
 --   head-parts             the parts of the first lines
-use Rattle.std.proofs.Common.{◌≡◌, sym, ◌∙◌, ap, ap₂, subst, refl, ℕ, ℤ, suc, pos, ◌*◌, ◌^◌, ◌<◌, ◌≤◌, List, ◌∷◌, [], ◌++◌, length, get_or, arith}
+use Rattle.std.proofs.Common.{◌≡◌, sym, ◌∙◌, ap, ap₂, subst, refl, ℕ, ℤ, suc, pos, ◌*◌, ◌^◌}
+use Rattle.std.proofs.Common.{◌<◌, ◌≤◌, List, ◌∷◌, [], ◌++◌, length, get_or, arith}
 use Rattle.std.specs.Prelude.{codes}
 use Rattle.std.specs.Int.{◌∣◌}
 use Rattle.std.specs.Fmt.{decimal, signed_decimal}
@@ -50,7 +51,8 @@ use Rattle.irr_star.specs.Sizes.{IsSmallFamily as IsInducibleFamily}
 use Rattle.irr_full_text.proofs.CompleteContents.{full_of_list, full_of_list-is}
 use Rattle.irr_real.specs.Families.{IsFamilyOf, IsSmallFamily}
 use Rattle.irr_top.specs.Answer.{AreWithin, order_limit}
-use Rattle.irr_top.specs.RealCommand.{RealContent, IsRealContent, IsRealReply, IsRealText, real_content, real_text, type_line}
+use Rattle.irr_top.specs.RealCommand.{RealContent, IsRealContent, IsRealReply, IsRealText, real_content}
+use Rattle.irr_top.specs.RealCommand.{real_text, type_line}
 use Rattle.irr_top.specs.RealFamilies.{AreTyped, IsTypeable, IsTyped, head_text, row_text, rows_text}
 use Rattle.irr_top.specs.GroupOf.{IsGroupOf, group_of}
 use Rattle.irr_top.specs.Question.Question.{real}
@@ -66,7 +68,8 @@ use Rattle.irr_top.proofs.RealContents.{content_along}
 room : (d n e : ℕ) → d ≤ 48 → n ≤ 12000 → e ≤ 2 ^ 11 → d * 13824 * n * e < 2 ^ 110
 room d n e few order small =
     let same : 13824 ≤ 13824 = omega arith in
-    let l : d * 13824 * n * e ≤ 48 * 13824 * 12000 * 2 ^ 11 = Nat.mul-le-mul (Nat.mul-le-mul (Nat.mul-le-mul few same) order) small in
+    let l : d * 13824 * n * e ≤ 48 * 13824 * 12000 * 2 ^ 11 = Nat.mul-le-mul
+    (Nat.mul-le-mul (Nat.mul-le-mul few same) order) small in
     let b : 48 * 13824 * 12000 * 2 ^ 11 < 2 ^ 110 = omega arith in
     Nat.lt_of_le_of_lt l b
 
@@ -94,7 +97,8 @@ typed_family M {h} {d} D f within s = record {
 
 as_small : {X : Type 0} {V : Ghosts X} {h : ℕ} (T : PhaseTable h) (M : ℕ) (v : T.order ∣ M) (d : ℕ)
     (D : Representation (phases_over T M v) d) (f : Family X V) → IsFamilyOf M D.at f → IsSmallFamily T M f
-as_small T M v d D f is = subst (λ n. (E : Representation (phases_over T M v) n) → IsFamilyOf M E.at f → IsSmallFamily T M f) is.size
+as_small T M v d D f is = subst
+    (λ n. (E : Representation (phases_over T M v) n) → IsFamilyOf M E.at f → IsSmallFamily T M f) is.size
     (λ E i. record { divides = v; small = E; family = i }) D is
 
 -- past the end of the rows
@@ -115,7 +119,8 @@ module _ (group : Group) (w : WaveVector) (arms : List Arm) (t : Twisted) (are :
 
   family_at : (v : N ∣ N) (m : Fin s.list.count) (other : Family X V)
       → IsFamilyOf N (over (phase_table t) N v (s.list.member m)).at (get_or fs (to_nat m) other)
-  family_at v m other = typed_family N (over (phase_table t) N v (s.list.member m)).at (get_or fs (to_nat m) other) within
+  family_at v m other = typed_family N (over (phase_table t) N v (s.list.member m)).at
+      (get_or fs (to_nat m) other) within
       (small_family (phase_table t) t.places_within v fs s sizes m other)
 
   pub typeable : All (IsTypeable t) fs
@@ -133,7 +138,8 @@ module _ (group : Group) (w : WaveVector) (arms : List Arm) (t : Twisted) (are :
   inside m = subst (λ n. to_nat m < n) (sym s.read.count) (to_nat-lt m)
 
   simple_over : (v : N ∣ N) (m : Fin s.list.count) → IsSimple (over (phase_table t) N v (s.list.member m)).at
-  simple_over v m = subst (λ (f : Fin (place_count t) → Matrix (numbers N) (s.list.size m) (s.list.size m)). IsSimple f)
+  simple_over v m = subst
+      (λ (f : Fin (place_count t) → Matrix (numbers N) (s.list.size m) (s.list.size m)). IsSimple f)
       (sym (fun_ext (λ i. at_own_order-over (phase_table t) v (s.list.member m) i))) (s.simple m)
 
   module _ (rows : List TypedRep) (made : AreTyped group w (length arms) fs rows) where
@@ -164,7 +170,8 @@ module _ (group : Group) (w : WaveVector) (arms : List Arm) (t : Twisted) (are :
     unfolding type_line
     line-row m x l is =
         let here : row m ≡ x = get_or_default rows (to_nat m) no_row x l ∙ sym is in
-        ap₂ (λ (n : ℕ) (z : ℤ). line (codes "rep" ++ next_word (83 ∷ decimal (suc (to_nat m))) ++ next_word (codes "dim")
+        ap₂ (λ (n : ℕ) (z : ℤ).
+        line (codes "rep" ++ next_word (83 ∷ decimal (suc (to_nat m))) ++ next_word (codes "dim")
         ++ next_word (decimal n) ++ next_word (codes "type") ++ next_word (signed_decimal z)))
         (size-row m ∙ ap (λ (r : TypedRep). r.dim) here) (ap (λ (r : TypedRep). r.kind) here)
 
@@ -201,7 +208,8 @@ module _ (group : Group) (w : WaveVector) (arms : List Arm) (t : Twisted) (are :
     }
 
 -- what stands at a reduced wave vector stands at each that it is the reduced one of
-content_through : (G : Operation → Type 0) (s : Sign) (k r : WaveVector) (c : RealContent) → IsReduced G k r → IsRealContent s G r c
+content_through : (G : Operation → Type 0) (s : Sign) (k r : WaveVector) (c : RealContent) → IsReduced G k r
+    → IsRealContent s G r c
     → IsRealContent s G k c
 content_through G s k r c p q = record {
   wave = q.wave;
@@ -219,8 +227,10 @@ content_through G s k r c p q = record {
 }
 
 -- at a wave vector of the group of generators
-module _ (group : Group) (gens : List Op) (is : IsGroupOf group gens) (k w : WaveVector) (reduced : IsReduced (group_of gens) k w) where
-  text_of : (text : List ℕ) → IsRealText (sign_of group.phase) (stands_for group) w text → IsRealText minus (group_of gens) k text
+module _ (group : Group) (gens : List Op) (is : IsGroupOf group gens) (k w : WaveVector)
+    (reduced : IsReduced (group_of gens) k w) where
+  text_of : (text : List ℕ) → IsRealText (sign_of group.phase) (stands_for group) w text
+      → IsRealText minus (group_of gens) k text
   text_of text t = record {
     content = t.content;
     is_content = content_through (group_of gens) minus k w t.content reduced
@@ -237,5 +247,6 @@ module _ (group : Group) (gens : List Op) (is : IsGroupOf group gens) (k w : Wav
 -- the parts of the first lines
 pub head-parts : (w n a : List ℕ)
     → codes "real 1\nwave " ++ (w ++ (codes "\norder " ++ (n ++ (codes "\nreps " ++ (a ++ codes "\n")))))
-    ≡ line (codes "real 1") ++ line (codes "wave" ++ next_word w) ++ line (codes "order" ++ next_word n) ++ line (codes "reps" ++ next_word a)
+    ≡ line (codes "real 1") ++ line (codes "wave" ++ next_word w) ++ line (codes "order" ++ next_word n)
+    ++ line (codes "reps" ++ next_word a)
 head-parts w n a = head_regroup (codes "real 1\n") (codes "wave ") (codes "order ") (codes "reps ") (10 ∷ []) w n a

@@ -1,6 +1,6 @@
 -- What a command asks of a group of operations, with all that the words and the input say of it.
---   Question                 the star of a wave vector, the small or the full representations at one, the types of the full
---                            ones, or the verdict on a report
+--   Question                 the star of a wave vector, the small or the full representations at one, the types of
+--                            the full ones, or the verdict on a report
 --   question_of r report     what a request asks, on an input with this report or none; nothing where the input lacks
 --                            the section that the command needs
 --   IsNeededOrder q G i n    the i-th order of numbers that the answer needs, in the group G, is n: i counts from 0

@@ -17,5 +17,6 @@ unfolding none
 loop-i-preserved c =
     let rows = c.args.rows.now in
     let i = c.loop-i.i in
-    c.in_ok-push_row.ensures ∙ numbered_step row_text c.args.text.now.items c.loop-i.text.items rows i (get_or rows i none) c.loop-i-test.true
+    c.in_ok-push_row.ensures ∙ numbered_step row_text c.args.text.now.items c.loop-i.text.items rows i
+    (get_or rows i none) c.loop-i-test.true
     (get_or_default rows i none (get_or rows i none) c.loop-i-test.true) c.loop-i.invariant

@@ -12,12 +12,16 @@ use Rattle.irr_top.proofs.RealTexts.{real_reply_of}
 use Rattle.irr_top.proofs.real.real_reply.Goals as goal
 
 pub types_text-requires-clause-reduced : goal.types_text-requires-clause-reduced
-types_text-requires-clause-reduced c = reduced_there c.args.group.now c.requires.group.0 c.requires.group.1 (wave_vector c.args.k.now)
-    (wave_vector c.reduced_wave-wave.result) (c.reduced_wave-wave.ensures.reduced c.requires.group.0 c.requires.group.1)
+types_text-requires-clause-reduced c = reduced_there c.args.group.now c.requires.group.0 c.requires.group.1
+    (wave_vector c.args.k.now)
+    (wave_vector c.reduced_wave-wave.result)
+    (c.reduced_wave-wave.ensures.reduced c.requires.group.0 c.requires.group.1)
 
 pub types_text-requires-clause-steps : goal.types_text-requires-clause-steps
-types_text-requires-clause-steps c = table_steps c.args.group.now c.requires.group.0 c.requires.group.1 (wave_vector c.args.k.now)
-    (wave_vector c.reduced_wave-wave.result) (c.reduced_wave-wave.ensures.reduced c.requires.group.0 c.requires.group.1)
+types_text-requires-clause-steps c = table_steps c.args.group.now c.requires.group.0 c.requires.group.1
+    (wave_vector c.args.k.now)
+    (wave_vector c.reduced_wave-wave.result)
+    (c.reduced_wave-wave.ensures.reduced c.requires.group.0 c.requires.group.1)
     (operation_places c.in-Ok.t) (phase_table c.in-Ok.t) c.in-Ok.ensures.table c.in-Ok.ensures.accepted
 
 pub returns-in_ok-text-in-Ok-clause-reply : goal.returns-in_ok-text-in-Ok-clause-reply
@@ -25,7 +29,8 @@ returns-in_ok-text-in-Ok-clause-reply c = λ gens is.
     let k = wave_vector c.args.k.now in
     let w = wave_vector c.reduced_wave-wave.result in
     let reduced = c.reduced_wave-wave.ensures.reduced gens is in
-    let order = order_of_table c.args.group.now gens is k w reduced (operation_places c.in-Ok.t) (phase_table c.in-Ok.t)
+    let order = order_of_table c.args.group.now gens is k w reduced (operation_places c.in-Ok.t)
+    (phase_table c.in-Ok.t)
     c.in-Ok.ensures.table c.in-Ok.ensures.accepted in
     real_reply_of c.args.group.now gens is k w reduced (phase_table c.in-Ok.t).order order c.in-Ok.ensures.accepted
     c.in_ok-text-in-Ok.text.items c.in_ok-text-in-Ok.ensures

@@ -32,7 +32,8 @@ loop-family-init g c = record {
 
 pub typed_rep-requires-clause-family : goal.typed_rep-requires-clause-family
 typed_rep-requires-clause-family g c = subst (λ (f : Family g.row.S.Denot g.S.Scalar). IsTypeable c.args.t.now f)
-    (sym c.family-item.is) (c.requires.families c.loop-family.family-index c.family-item.result c.loop-family-test.true)
+    (sym c.family-item.is)
+    (c.requires.families c.loop-family.family-index c.family-item.result c.loop-family-test.true)
 
 pub loop-family-preserved : goal.loop-family-preserved
 loop-family-preserved g c =
@@ -41,15 +42,18 @@ loop-family-preserved g c =
     let arms = c.args.arms in
     let n = c.loop-family.family-index in
     let xs = c.loop-family.rows.items in
-    let here : (f : Family g.row.S.Denot g.S.Scalar) → IsTyped group k arms (get_or c.args.families.now n f) c.in_ok-row.row =
+    let here : (f : Family g.row.S.Denot g.S.Scalar) → IsTyped group k arms (get_or c.args.families.now n f)
+    c.in_ok-row.row =
     λ f. subst (λ (h : Family g.row.S.Denot g.S.Scalar). IsTyped group k arms h c.in_ok-row.row)
     (c.family-item.is ∙ get_or_default c.args.families.now n c.family-item.result f c.loop-family-test.true)
     c.in_ok-row.ensures in
     record {
-      count = one_more xs c.push.new.self.items c.in_ok-row.row n c.in_ok-push.ensures.items c.loop-family.invariant.count;
+      count = one_more xs c.push.new.self.items c.in_ok-row.row n c.in_ok-push.ensures.items
+          c.loop-family.invariant.count;
       within = next_within n (length c.args.families.now) c.loop-family-test.true;
       each = pushed (λ (d : TypedRep) i x. (f : Family g.row.S.Denot g.S.Scalar) → IsTyped group k arms
-          (get_or c.args.families.now i f) x) xs c.push.new.self.items c.in_ok-row.row n c.loop-family.invariant.count c.in_ok-push.ensures.items
+          (get_or c.args.families.now i f) x) xs c.push.new.self.items c.in_ok-row.row n
+          c.loop-family.invariant.count c.in_ok-push.ensures.items
           c.loop-family.invariant.each (λ d. here);
     }
 
@@ -58,6 +62,7 @@ returns g c =
     let n = c.loop-family.family-index in
     let made = c.loop-family.invariant in
     record {
-      count = all_reached n (length c.args.families.now) (length c.loop-family.rows.items) made.count made.within c.loop-family-test.false;
+      count = all_reached n (length c.args.families.now) (length c.loop-family.rows.items) made.count made.within
+          c.loop-family-test.false;
       each = λ i f x l. made.each i x (before_end i n (length c.args.families.now) l c.loop-family-test.false) f;
     }
