@@ -19,7 +19,7 @@ use Rattle.irr_kvec.specs.WaveMeaning.{wave_vector}
 use Rattle.irr_input.specs.declared.words.Command.{Command}
 use Rattle.irr_input.specs.declared.words.Command.TheVariants as commands
 use Rattle.irr_input.specs.declared.verb.Verb.{Verb}
-use Rattle.irr_input.specs.declared.verb.Verb.TheVariants.{Star, Small, Full, Product, Subduce, Compat, Check, Gen}
+use Rattle.irr_input.specs.declared.verb.Verb.TheVariants.{Star, Small, Full, Real, Product, Subduce, Compat, Check, Gen}
 use Rattle.irr_input.specs.Command.{Argument, IsWordOf, AreWordsOf, verb_of, arguments_of, verb_word, AreWords, IsCommand, AreOneCommand, IsFaulty}
 use Rattle.irr_input.specs.Command.Argument.{wave, number}
 use Rattle.irr_input.specs.Forms.{Sort, IsOfSort, Form, IsOfForm, one_wave, two_waves, form_of, IsRefused, IsRefusedFrom}
@@ -93,14 +93,16 @@ same = pointwise nat_eq
 
 verb_named : List ℕ → Option Verb
 verb_named w = if same w (codes "star") then Some Star else (if same w (codes "small") then Some Small else (if same w (codes "full") then Some Full
+    else (if same w (codes "real") then Some Real
     else (if same w (codes "product") then Some Product else (if same w (codes "subduce") then Some Subduce else (if same w (codes "compat") then Some Compat
-    else (if same w (codes "check") then Some Check else (if same w (codes "gen") then Some Gen else None)))))))
+    else (if same w (codes "check") then Some Check else (if same w (codes "gen") then Some Gen else None))))))))
 
 named : (v : Verb) → verb_named (verb_word v) ≡ Some v
 unfolding verb_named same
 named Star = refl
 named Small = refl
 named Full = refl
+named Real = refl
 named Product = refl
 named Subduce = refl
 named Compat = refl
@@ -145,6 +147,7 @@ form-of : (c : Command) → IsFormOf (form_of (verb_of c)) (arguments_of c)
 form-of (commands.Star k) = form-wave k no_more [] form-none
 form-of (commands.Small k) = form-wave k no_more [] form-none
 form-of (commands.Full k) = form-wave k no_more [] form-none
+form-of (commands.Real k) = form-wave k no_more [] form-none
 form-of (commands.Product k l) = form-wave k one_wave (wave (wave_vector l) ∷ []) (form-wave l no_more [] form-none)
 form-of (commands.Subduce k) = form-wave k no_more [] form-none
 form-of (commands.Compat k l None) = form-wave k (one_more of_waves (perhaps of_waves no_more)) (wave (wave_vector l) ∷ [])
@@ -176,6 +179,7 @@ of_form : (v : Verb) (ws : List (List ℕ)) → IsOfForm (form_of v) ws → HasC
 of_form Star ws h = let r = of_one ws h in record { command = commands.Star r.0; verb = refl; arguments = r.1 }
 of_form Small ws h = let r = of_one ws h in record { command = commands.Small r.0; verb = refl; arguments = r.1 }
 of_form Full ws h = let r = of_one ws h in record { command = commands.Full r.0; verb = refl; arguments = r.1 }
+of_form Real ws h = let r = of_one ws h in record { command = commands.Real r.0; verb = refl; arguments = r.1 }
 of_form Product ws h = let r = of_two ws h in record { command = commands.Product r.0 r.1; verb = refl; arguments = r.2 }
 of_form Subduce ws h = let r = of_one ws h in record { command = commands.Subduce r.0; verb = refl; arguments = r.1 }
 of_form Compat [] h = absurd h

@@ -21,7 +21,7 @@ use Rattle.irr_kvec.specs.WaveFault.{IsTextOf}
 use Rattle.irr_input.specs.declared.words.Command.{Command}
 use Rattle.irr_input.specs.declared.words.Command.TheVariants as commands
 use Rattle.irr_input.specs.declared.verb.Verb.{Verb}
-use Rattle.irr_input.specs.declared.verb.Verb.TheVariants.{Star, Small, Full, Product, Subduce, Compat, Check, Gen}
+use Rattle.irr_input.specs.declared.verb.Verb.TheVariants.{Star, Small, Full, Real, Product, Subduce, Compat, Check, Gen}
 
 abbrev pub texts : List (Vec ℕ Global) → List (List ℕ)
 texts words = map (λ (word : Vec ℕ Global). word.items) words
@@ -44,6 +44,7 @@ abbrev pub verb_of : Command → Verb
 verb_of (commands.Star k) = Star
 verb_of (commands.Small k) = Small
 verb_of (commands.Full k) = Full
+verb_of (commands.Real k) = Real
 verb_of (commands.Product k l) = Product
 verb_of (commands.Subduce k) = Subduce
 verb_of (commands.Compat k l m) = Compat
@@ -54,6 +55,7 @@ abbrev pub arguments_of : Command → List Argument
 arguments_of (commands.Star k) = wave (wave_vector k) ∷ []
 arguments_of (commands.Small k) = wave (wave_vector k) ∷ []
 arguments_of (commands.Full k) = wave (wave_vector k) ∷ []
+arguments_of (commands.Real k) = wave (wave_vector k) ∷ []
 arguments_of (commands.Product k l) = wave (wave_vector k) ∷ wave (wave_vector l) ∷ []
 arguments_of (commands.Subduce k) = wave (wave_vector k) ∷ []
 arguments_of (commands.Compat k l None) = wave (wave_vector k) ∷ wave (wave_vector l) ∷ []
@@ -65,6 +67,7 @@ abbrev pub verb_word : Verb → List ℕ
 verb_word Star = codes "star"
 verb_word Small = codes "small"
 verb_word Full = codes "full"
+verb_word Real = codes "real"
 verb_word Product = codes "product"
 verb_word Subduce = codes "subduce"
 verb_word Compat = codes "compat"
@@ -80,6 +83,7 @@ abbrev pub AreLimited : Command → Type 0
 AreLimited (commands.Star k) = IsWithinLimits k
 AreLimited (commands.Small k) = IsWithinLimits k
 AreLimited (commands.Full k) = IsWithinLimits k
+AreLimited (commands.Real k) = IsWithinLimits k
 AreLimited (commands.Product k l) = IsWithinLimits k × IsWithinLimits l
 AreLimited (commands.Subduce k) = IsWithinLimits k
 AreLimited (commands.Compat k l m) = IsWithinLimits k × IsWithinLimits l × IfSome m IsWithinLimits

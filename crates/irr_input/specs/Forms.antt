@@ -15,7 +15,7 @@ use Rattle.irr_kvec.specs.WaveMeaning.{wave_vector}
 use Rattle.irr_input.specs.Command.{Argument, IsWordOf}
 use Rattle.irr_input.specs.Command.Argument.{wave, number}
 use Rattle.irr_input.specs.declared.verb.Verb.{Verb}
-use Rattle.irr_input.specs.declared.verb.Verb.TheVariants.{Star, Small, Full, Product, Subduce, Compat, Check, Gen}
+use Rattle.irr_input.specs.declared.verb.Verb.TheVariants.{Star, Small, Full, Real, Product, Subduce, Compat, Check, Gen}
 
 pub data Sort : Type 0 where
   of_waves : Sort
@@ -54,6 +54,7 @@ abbrev pub form_of : Verb → Form
 form_of Star = one_wave
 form_of Small = one_wave
 form_of Full = one_wave
+form_of Real = one_wave
 form_of Product = two_waves
 form_of Subduce = one_wave
 form_of Compat = two_or_three_waves

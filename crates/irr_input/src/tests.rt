@@ -25,6 +25,7 @@ fn parts(command: &Command) -> (&'static str, [u32; 4]) {
         Command::Star(k) => ("star", [k.den, 0, 0, 0]),
         Command::Small(k) => ("small", [k.den, 0, 0, 0]),
         Command::Full(k) => ("full", [k.den, 0, 0, 0]),
+        Command::Real(k) => ("real", [k.den, 0, 0, 0]),
         Command::Product(k, l) => ("product", [k.den, l.den, 0, 0]),
         Command::Subduce(k) => ("subduce", [k.den, 0, 0, 0]),
         Command::Compat(k, l, m) => ("compat", [k.den, l.den, third(m), 0]),
@@ -47,6 +48,7 @@ fn words_are_commands(rt: HostRuntime) -> Result<(), Fail> {
         (&["star", "1/4,0,0"][..], ("star", [4, 0, 0, 0])),
         (&["small", "0,1/2,0"], ("small", [2, 0, 0, 0])),
         (&["full", "-1 / 3,\t0,+0"], ("full", [3, 0, 0, 0])),
+        (&["real", "1/4,0,0"], ("real", [4, 0, 0, 0])),
         (
             &["product", "1/8,0,0", "0,1/5,0"],
             ("product", [8, 5, 0, 0]),

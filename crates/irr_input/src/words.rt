@@ -17,6 +17,8 @@ pub enum Command {
     Small(Wave),
     /// The representations of the space group that they induce.
     Full(Wave),
+    /// The types of these.
+    Real(Wave),
     /// The parts of direct products of representations at two wave vectors.
     Product(Wave, Wave),
     /// The parts of restrictions to a subgroup.
@@ -62,6 +64,7 @@ fn with_arguments(verb: Verb, words: &[Vec<u8>]) -> Result<Command, Usage>
         Verb::Star => Ok(Command::Star(one_wave(words)?)),
         Verb::Small => Ok(Command::Small(one_wave(words)?)),
         Verb::Full => Ok(Command::Full(one_wave(words)?)),
+        Verb::Real => Ok(Command::Real(one_wave(words)?)),
         Verb::Product => {
             let (first, second) = two_waves(words)?;
             Ok(Command::Product(first, second))

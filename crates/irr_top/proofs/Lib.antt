@@ -18,4 +18,6 @@ pub mod FirstPieces
 pub mod FirstArms
 pub mod StarTexts
 pub mod FullTexts
+pub mod RealTexts
+pub mod RealContents
 pub mod OneStar

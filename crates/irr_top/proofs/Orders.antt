@@ -9,7 +9,7 @@ use Rattle.irr_space.specs.Operation.{Operation, WaveVector}
 use Rattle.irr_space.specs.Reciprocal.{IsOrder}
 use Rattle.irr_check.proofs.OneTable.{order_unique}
 use Rattle.irr_top.specs.Question.{Question, IsNeededOrder}
-use Rattle.irr_top.specs.Question.Question.{star, small, full, check}
+use Rattle.irr_top.specs.Question.Question.{star, small, full, real, check}
 use Rattle.irr_top.specs.Answer.{IsTooLargeAt, order_limit}
 
 pub needed_once : (q : Question) (G : Operation → Type 0) (i m n : ℕ) → IsNeededOrder q G i m → IsNeededOrder q G i n
@@ -17,6 +17,7 @@ pub needed_once : (q : Question) (G : Operation → Type 0) (i m n : ℕ) → Is
 needed_once (star k) G i m n p o = order_unique G k m n p.1 o.1
 needed_once (small k) G i m n p o = order_unique G k m n p.1 o.1
 needed_once (full k) G i m n p o = order_unique G k m n p.1 o.1
+needed_once (real k) G i m n p o = order_unique G k m n p.1 o.1
 needed_once (check r) G i m n p o = order_unique G r.wave m n p.1 o.1
 
 -- a number above a limit and within it

@@ -11,12 +11,13 @@ use Rattle.irr_input.specs.declared.words.Command.TheVariants as commands
 use Rattle.irr_input.proofs.WaveTexts.{zero-text, zero_wave}
 use Rattle.irr_input.proofs.WordForms.{verb_unique}
 use Rattle.irr_top.specs.Request.{BeginsServed, IsCommand, IsFaultyWord, IsServed}
-use Rattle.irr_top.specs.declared.request.Request.TheVariants.{Star, Small, Full, Check}
+use Rattle.irr_top.specs.declared.request.Request.TheVariants.{Star, Small, Full, Real, Check}
 
 served_command : (words : List (List ℕ)) (c : Command) → AreWords words c → IsServed c → IsCommand words
 served_command words (commands.Star k) a v = (Star k, a)
 served_command words (commands.Small k) a v = (Small k, a)
 served_command words (commands.Full k) a v = (Full k, a)
+served_command words (commands.Real k) a v = (Real k, a)
 served_command words (commands.Product k l) a v = absurd v
 served_command words (commands.Subduce k) a v = absurd v
 served_command words (commands.Compat k l m) a v = absurd v
@@ -28,22 +29,27 @@ same_served : (c d : Command) → IsServed d → verb_of c ≡ verb_of d → IsS
 same_served (commands.Star k) d v e = tt
 same_served (commands.Small k) d v e = tt
 same_served (commands.Full k) d v e = tt
+same_served (commands.Real k) d v e = tt
 same_served commands.Check d v e = tt
 same_served (commands.Product k m) (commands.Star l) v e = cc
 same_served (commands.Product k m) (commands.Small l) v e = cc
 same_served (commands.Product k m) (commands.Full l) v e = cc
+same_served (commands.Product k m) (commands.Real l) v e = cc
 same_served (commands.Product k m) commands.Check v e = cc
 same_served (commands.Subduce k) (commands.Star l) v e = cc
 same_served (commands.Subduce k) (commands.Small l) v e = cc
 same_served (commands.Subduce k) (commands.Full l) v e = cc
+same_served (commands.Subduce k) (commands.Real l) v e = cc
 same_served (commands.Subduce k) commands.Check v e = cc
 same_served (commands.Compat k m n) (commands.Star l) v e = cc
 same_served (commands.Compat k m n) (commands.Small l) v e = cc
 same_served (commands.Compat k m n) (commands.Full l) v e = cc
+same_served (commands.Compat k m n) (commands.Real l) v e = cc
 same_served (commands.Compat k m n) commands.Check v e = cc
 same_served (commands.Gen n) (commands.Star l) v e = cc
 same_served (commands.Gen n) (commands.Small l) v e = cc
 same_served (commands.Gen n) (commands.Full l) v e = cc
+same_served (commands.Gen n) (commands.Real l) v e = cc
 same_served (commands.Gen n) commands.Check v e = cc
 same_served c (commands.Product l m) v e = absurd v
 same_served c (commands.Subduce l) v e = absurd v
@@ -54,6 +60,7 @@ any_command : (words : List (List ℕ)) → IsCommand words → IsAnyCommand wor
 any_command words (Star k, a) = (commands.Star k, a)
 any_command words (Small k, a) = (commands.Small k, a)
 any_command words (Full k, a) = (commands.Full k, a)
+any_command words (Real k, a) = (commands.Real k, a)
 any_command words (Check, a) = (commands.Check, a)
 
 -- the first word of a command is that of its verb
@@ -64,11 +71,13 @@ begins : (words : List (List ℕ)) → IsCommand words → BeginsServed words
 begins [] (Star k, a) = let e : [] ≡ codes "star" ∷ a.behind = a.spelled in cc
 begins [] (Small k, a) = let e : [] ≡ codes "small" ∷ a.behind = a.spelled in cc
 begins [] (Full k, a) = let e : [] ≡ codes "full" ∷ a.behind = a.spelled in cc
+begins [] (Real k, a) = let e : [] ≡ codes "real" ∷ a.behind = a.spelled in cc
 begins [] (Check, a) = let e : [] ≡ codes "check" ∷ a.behind = a.spelled in cc
 begins (first ∷ ws) (Star k, a) = inl (first_word first ws (commands.Star k) a)
 begins (first ∷ ws) (Small k, a) = inr (inl (first_word first ws (commands.Small k) a))
 begins (first ∷ ws) (Full k, a) = inr (inr (inl (first_word first ws (commands.Full k) a)))
-begins (first ∷ ws) (Check, a) = inr (inr (inr (first_word first ws commands.Check a)))
+begins (first ∷ ws) (Real k, a) = inr (inr (inr (inl (first_word first ws (commands.Real k) a))))
+begins (first ∷ ws) (Check, a) = inr (inr (inr (inr (first_word first ws commands.Check a))))
 
 served_first : (first : List ℕ) (ws : List (List ℕ)) (c : Command) → BeginsServed (first ∷ ws) → AreWords (first ∷ ws) c → IsServed c
 served_first first ws c (inl e) a = same_served c (commands.Star zero_wave) tt
@@ -77,7 +86,9 @@ served_first first ws c (inr (inl e)) a = same_served c (commands.Small zero_wav
     (verb_unique (verb_of c) (verb_of (commands.Small zero_wave)) (sym (first_word first ws c a) ∙ e))
 served_first first ws c (inr (inr (inl e))) a = same_served c (commands.Full zero_wave) tt
     (verb_unique (verb_of c) (verb_of (commands.Full zero_wave)) (sym (first_word first ws c a) ∙ e))
-served_first first ws c (inr (inr (inr e))) a = same_served c commands.Check tt
+served_first first ws c (inr (inr (inr (inl e)))) a = same_served c (commands.Real zero_wave) tt
+    (verb_unique (verb_of c) (verb_of (commands.Real zero_wave)) (sym (first_word first ws c a) ∙ e))
+served_first first ws c (inr (inr (inr (inr e)))) a = same_served c commands.Check tt
     (verb_unique (verb_of c) (verb_of commands.Check) (sym (first_word first ws c a) ∙ e))
 
 some_command : IsCommand (codes "star" ∷ codes "0,0,0" ∷ [])

@@ -6,6 +6,7 @@ pub mod Question
 pub mod StarCommand
 pub mod SmallCommand
 pub mod FullCommand
+pub mod RealCommand
 pub mod CheckCommand
 pub mod Answer
 pub mod Asked
@@ -16,3 +17,4 @@ pub mod Members
 pub mod ListText
 pub mod StarText
 pub mod FullFamilies
+pub mod RealFamilies

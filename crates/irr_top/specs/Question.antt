@@ -1,6 +1,6 @@
 -- What a command asks of a group of operations, with all that the words and the input say of it.
---   Question                 the star of a wave vector, the small or the full representations at one, or the verdict on a
---                            report
+--   Question                 the star of a wave vector, the small or the full representations at one, the types of
+--                            the full ones, or the verdict on a report
 --   question_of r report     what a request asks, on an input with this report or none; nothing where the input lacks
 --                            the section that the command needs
 --   IsNeededOrder q G i n    the i-th order of numbers that the answer needs, in the group G, is n: i counts from 0
@@ -10,18 +10,20 @@ use Rattle.irr_space.specs.Reciprocal.{IsOrder}
 use Rattle.irr_text.specs.ReportText.{ReportContent}
 use Rattle.irr_kvec.specs.WaveMeaning.{wave_vector}
 use Rattle.irr_top.specs.declared.request.Request.{Request}
-use Rattle.irr_top.specs.declared.request.Request.TheVariants.{Star, Small, Full, Check}
+use Rattle.irr_top.specs.declared.request.Request.TheVariants.{Star, Small, Full, Real, Check}
 
 pub data Question : Type 0 where
   star : WaveVector → Question
   small : WaveVector → Question
   full : WaveVector → Question
+  real : WaveVector → Question
   check : ReportContent → Question
 
 abbrev pub question_of : Request → Option ReportContent → Option Question
 question_of (Star k) report = Some (star (wave_vector k))
 question_of (Small k) report = Some (small (wave_vector k))
 question_of (Full k) report = Some (full (wave_vector k))
+question_of (Real k) report = Some (real (wave_vector k))
 question_of Check None = None
 question_of Check (Some r) = Some (check r)
 
@@ -29,4 +31,5 @@ abbrev pub IsNeededOrder : Question → (Operation → Type 0) → ℕ → ℕ �
 IsNeededOrder (star k) G i n = (i ≡ 0) × IsOrder G k n
 IsNeededOrder (small k) G i n = (i ≡ 0) × IsOrder G k n
 IsNeededOrder (full k) G i n = (i ≡ 0) × IsOrder G k n
+IsNeededOrder (real k) G i n = (i ≡ 0) × IsOrder G k n
 IsNeededOrder (check r) G i n = (i ≡ 0) × IsOrder G r.wave n

@@ -17,6 +17,7 @@ ghost use Rattle.irr_top.specs.Task.{asked_by, IsLimited};
 
 use crate::check::check_reply;
 use crate::full::full_reply;
+use crate::real::real_reply;
 use crate::refusal::{finish, refuse};
 use crate::reply::{NoReply, Reply};
 use crate::request::Request;
@@ -178,6 +179,7 @@ fn reply_of(alloc: Global, task: &Task, group: &Group) -> Result<Reply, NoReply>
         Task::Star(wave) => star_reply(alloc, group, wave),
         Task::Small(wave) => small_reply(alloc, group, wave),
         Task::Full(wave) => full_reply(alloc, group, wave),
+        Task::Real(wave) => real_reply(alloc, group, wave),
         Task::Check(report) => check_reply(alloc, group, report),
     }
 }

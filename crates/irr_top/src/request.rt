@@ -15,6 +15,8 @@ pub(crate) enum Request {
     Small(Wave),
     /// The full representations at a wave vector.
     Full(Wave),
+    /// The types of the full representations.
+    Real(Wave),
     /// The verdict on the input's report.
     Check,
 }
@@ -44,6 +46,7 @@ fn request_of(command: Command) -> Option<Request>
         Command::Star(wave) => Some(Request::Star(wave)),
         Command::Small(wave) => Some(Request::Small(wave)),
         Command::Full(wave) => Some(Request::Full(wave)),
+        Command::Real(wave) => Some(Request::Real(wave)),
         Command::Check => Some(Request::Check),
         Command::Product(..) | Command::Subduce(_) | Command::Compat(..) | Command::Gen(_) => None,
     }
@@ -54,7 +57,10 @@ fn begins_served(words: &[Vec<u8>]) -> bool
     ensures { IsTrue result ↔ BeginsServed (texts words.now) }
 {
     match words.split_first() {
-        Some((first, _)) => matches!(first.as_slice(), b"star" | b"small" | b"full" | b"check"),
+        Some((first, _)) => matches!(
+            first.as_slice(),
+            b"star" | b"small" | b"full" | b"real" | b"check"
+        ),
         None => false,
     }
 }

@@ -208,6 +208,35 @@ fn full_representations_are_written_whole(rt: HostRuntime) -> Result<(), Fail> {
     Ok(())
 }
 
+// Two arms, which the inversion exchanges: in a suitable basis the representation is real.
+const INVERSION_TYPES: &str = "real 1\nwave 1/4,0,0\norder 8\nreps 1\nrep S1 dim 2 type 1\nend\n";
+
+// The screw is i or -i.
+const SCREW_TYPES: &str =
+    "real 1\nwave 0,1/2,0\norder 4\nreps 2\nrep S1 dim 1 type 0\nrep S2 dim 1 type 0\nend\n";
+
+// The screws are as quaternions.
+const ORTHORHOMBIC_TYPES: &str =
+    "real 1\nwave 1/2,1/2,1/2\norder 4\nreps 1\nrep S1 dim 2 type -1\nend\n";
+
+// The translation by x is -1.
+const TRANSLATION_TYPES: &str = "real 1\nwave 1/2,0,0\norder 2\nreps 1\nrep S1 dim 1 type 1\nend\n";
+
+#[test]
+fn types_are_written_whole(rt: HostRuntime) -> Result<(), Fail> {
+    for (input, wave, expected) in [
+        (INVERSION, "1/4,0,0", INVERSION_TYPES),
+        (SCREW, "0,1/2,0", SCREW_TYPES),
+        (ORTHORHOMBIC, "1/2,1/2,1/2", ORTHORHOMBIC_TYPES),
+        ("", "1/2,0,0", TRANSLATION_TYPES),
+    ] {
+        let (status, text) = at(rt.alloc(), "real", input, wave)?;
+        assert_eq!(rt; status, Status::Done, "at {wave}");
+        assert_eq!(rt; text.as_slice(), expected.as_bytes(), "at {wave}");
+    }
+    Ok(())
+}
+
 // The reciprocal lattice depends on the centring.
 #[test]
 fn stars_of_a_reciprocal_lattice_vector(rt: HostRuntime) -> Result<(), Fail> {
@@ -472,6 +501,8 @@ fn words_are_refused(rt: HostRuntime) -> Result<(), Fail> {
         (&["star", "0,0,0", "0"], "usage 3\n"),
         (&["full"], "usage 2\n"),
         (&["full", "0,0,0", "0"], "usage 3\n"),
+        (&["real"], "usage 2\n"),
+        (&["real", "0,0,0", "0"], "usage 3\n"),
         (&["product", "0,0,0", "0,0,0"], "usage 1\n"),
         (&["check", "0"], "usage 2\n"),
     ] {

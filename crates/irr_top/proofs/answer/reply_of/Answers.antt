@@ -18,6 +18,10 @@ pub returns-in-Full-clause-none : goal.returns-in-Full-clause-none
 returns-in-Full-clause-none c = λ gens is. subst (λ (t : Task). IfErr c.full_reply.result (IsNoReply (asked_by t) (group_of gens)))
     (sym c.in-Full.is) (c.full_reply.ensures.none gens is)
 
+pub returns-in-Real-clause-none : goal.returns-in-Real-clause-none
+returns-in-Real-clause-none c = λ gens is. subst (λ (t : Task). IfErr c.real_reply.result (IsNoReply (asked_by t) (group_of gens)))
+    (sym c.in-Real.is) (c.real_reply.ensures.none gens is)
+
 pub returns-in-Check-clause-none : goal.returns-in-Check-clause-none
 returns-in-Check-clause-none c = λ gens is. subst (λ (t : Task). IfErr c.check_reply.result (IsNoReply (asked_by t) (group_of gens)))
     (sym c.in-Check.is) (c.check_reply.ensures.none gens is)
