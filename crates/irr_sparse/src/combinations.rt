@@ -5,7 +5,7 @@ ghost use Rattle.irr_number.specs.Number.{numbers, root_power};
 ghost use Rattle.irr_rational.specs.Integer.{integer};
 ghost use Rattle.irr_cyc.specs.Terms.{terms_sum};
 ghost use Rattle.irr_cyc.specs.declared.orders.TheConstants.{ORDER_LIMIT};
-ghost use Rattle.irr_sparse.specs.TermList.{AreTerms, exponent_at, row_sum, total};
+ghost use Rattle.irr_sparse.specs.TermList.{AreTerms, IsTerm, exponent_at, row_sum, total};
 ghost use Rattle.irr_sparse.specs.Parts.{AreParts, IsFreeOutside, weight};
 
 use crate::parts::{Part, parts_of};
@@ -153,7 +153,7 @@ pub(crate) fn collected(
     Ok(sums)
 }
 
-/// Each coefficient times a number: one allocation, and as many steps as terms.
+/// Each coefficient times a number: at most one allocation, none for one term, and as many steps as terms.
 pub(crate) fn scaled(
     alloc: Global,
     terms: &[(u32, i128)],
@@ -162,7 +162,12 @@ pub(crate) fn scaled(
     requires { total terms.now * unsigned_abs times < 2 ^ 126 }
     ensures { IfOk result (λ v. v.items ≡ map (λ t. (t.0, t.1 *ℤ times)) terms.now) }
 {
-    let mut products = Terms::with_capacity(alloc, terms.len())?;
+    let count = terms.len();
+    if count == 1 {
+        let (place, only) = terms[0];
+        return Ok(Terms::from_buf(alloc, [(place, only * times)]));
+    }
+    let mut products = Terms::with_capacity(alloc, count)?;
     for (exponent, coefficient) in terms {
         products.push((*exponent, *coefficient * times))?;
     }
@@ -217,8 +222,36 @@ fn add_below(
     Ok(next)
 }
 
-/// The terms of `left` times a number and `right` times another, of one order, taken in increasing order: one
-/// allocation, and as many steps as terms.
+// Whether two lists are one term each, of one power.
+fn are_of_one_power(xs: &[(u32, i128)], ys: &[(u32, i128)]) -> bool
+    ensures left { IsTrue result → length xs.now ≡ 1 }
+    ensures right { IsTrue result → length ys.now ≡ 1 }
+    ensures exponents { IsTrue result → exponent_at xs.now 0 ≡ exponent_at ys.now 0 }
+{
+    if xs.len() != 1 {
+        return false;
+    }
+    if ys.len() != 1 {
+        return false;
+    }
+    xs[0].0 == ys[0].0
+}
+
+// The sum of two multiples of one power. No memory is needed.
+fn sum_at(alloc: Global, exponent: u32, first: i128, second: i128) -> Terms
+    requires { unsigned_abs first + unsigned_abs second < 2 ^ 126 }
+    ensures terms { (n : ℕ) → IsTerm n 0 exponent first → AreTerms n 0 result.items }
+    ensures sum { (n : ℕ) → terms_sum n result.items ≡ (numbers n).add ((numbers n).mul (integer (numbers n) first) (root_power n exponent)) ((numbers n).mul (integer (numbers n) second) (root_power n exponent)) }
+{
+    let sum = first + second;
+    if sum == 0 {
+        return Terms::new(alloc);
+    }
+    Terms::from_buf(alloc, [(exponent, sum)])
+}
+
+/// The terms of `left` times a number and `right` times another, of one order, taken in increasing order: as many
+/// steps as terms, and no allocation for two terms of one power.
 pub(crate) fn combination(
     alloc: Global,
     xs: &[(u32, i128)],
@@ -233,6 +266,11 @@ pub(crate) fn combination(
     ensures terms { IfOk result (λ v. (n : ℕ) → AreTerms n 0 xs.now → AreTerms n 0 ys.now → AreTerms n 0 v.items) }
     ensures sum { IfOk result (λ v. (n : ℕ) → terms_sum n v.items ≡ (numbers n).add ((numbers n).mul (integer (numbers n) left) (terms_sum n xs.now)) ((numbers n).mul (integer (numbers n) right) (terms_sum n ys.now))) }
 {
+    if are_of_one_power(xs, ys) {
+        let (place, first) = xs[0];
+        let (_, second) = ys[0];
+        return Ok(sum_at(alloc, place, first * left, second * right));
+    }
     let mut sums = Terms::with_capacity(alloc, xs.len() + ys.len())?;
     let mut from = 0;
     for (exponent, coefficient) in xs {

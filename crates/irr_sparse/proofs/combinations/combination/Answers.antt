@@ -1,5 +1,6 @@
 -- The terms on the right below each on the left, that term, and the rest on the right.
 use Rattle.std.proofs.Common.{rules, ◌≡◌, sym, ◌∙◌, ap, subst, ℕ, ℤ, ◌+◌, ◌*◌, ◌-◌, ◌<◌, ◌≤◌, ◌^◌, ◌*ℤ◌, List, [], take, drop, length, unsigned_abs, FitsSigned, to_z, of_z, arith}
+use Rattle.irr_sparse.proofs.Pairs.{pair-small, pair-combination}
 use Rattle.std.proofs.lemmas.Int.{to_z-of_z, unsigned_abs-mul}
 use Rattle.std.proofs.lemmas.List.{take_all, take_rest}
 use mir.Syntax.{w128}
@@ -9,7 +10,7 @@ use Rattle.irr_rational.specs.Integer.{integer}
 use Rattle.irr_cyc.specs.Terms.{terms_sum}
 use Rattle.irr_sparse.specs.TermList.{AreTerms, IsTerm, coefficient_at, exponent_at, total}
 use Rattle.irr_sparse.proofs.Lists.{terms-at, terms-back, terms-increasing, terms-none}
-use Rattle.irr_sparse.proofs.Products.{merge-most, merge-next, merge-product, merge-rest, merge-small, term-scaled}
+use Rattle.irr_sparse.proofs.Products.{merge-most, merge-next, merge-product, merge-rest, merge-small, term-scaled, factor-small}
 use Rattle.irr_sparse.proofs.Sums.{sum-none}
 use Rattle.irr_sparse.proofs.Words.{product_fits, product_read}
 use Rattle.irr_sparse.proofs.combinations.combination.Goals as goal
@@ -129,3 +130,54 @@ returns-clause-sum c = λ n.
     ∙ ap (λ (ts : List (ℕ × ℤ)). (numbers n).add (terms_sum n c.loop-exponent.sums.items) ((numbers n).mul (integer (numbers n) (to_z w128 (of_z w128 c.args.right))) (terms_sum n ts))) (take_rest c.args.ys.now c.loop-exponent.from)
     ∙ c.loop-exponent.invariant.sum n
     ∙ (λ i. (numbers n).add ((numbers n).mul (integer (numbers n) (rl i)) (terms_sum n (take_all c.loop-exponent.exponent-index c.args.xs.now c.loop-exponent-test.false i))) ((numbers n).mul (integer (numbers n) (rr i)) (terms_sum n c.args.ys.now)))
+
+-- one term on each side
+some : (n : ℕ) → n ≡ 1 → 0 < n
+some n e = omega (arith, e)
+
+one-left : (xs ys : List (ℕ × ℤ)) (l r : ℕ) → 0 < length xs → total xs * l + total ys * r < 2 ^ 110 → unsigned_abs (coefficient_at xs 0) * l < 2 ^ 127
+one-left xs ys l r lt h = factor-small xs l 0 lt (omega (arith, h))
+
+one-right : (xs ys : List (ℕ × ℤ)) (l r : ℕ) → 0 < length ys → total xs * l + total ys * r < 2 ^ 110 → unsigned_abs (coefficient_at ys 0) * r < 2 ^ 127
+one-right xs ys l r lt h = factor-small ys r 0 lt (omega (arith, h))
+
+pub overflow_mul-first : goal.overflow_mul-first
+overflow_mul-first c =
+    let fl : FitsSigned w128 c.args.left = search rules in
+    let fc : FitsSigned w128 (coefficient_at c.args.xs.now 0) = search rules in
+    let fits : FitsSigned w128 (to_z w128 (of_z w128 (coefficient_at c.args.xs.now 0)) *ℤ to_z w128 (of_z w128 c.args.left)) = product_fits (coefficient_at c.args.xs.now 0) c.args.left fc fl (one-left c.args.xs.now c.args.ys.now (unsigned_abs c.args.left) (unsigned_abs c.args.right) (some (length c.args.xs.now) (c.are_of_one_power.ensures.left c.if-are_of_one_power.true)) c.requires.small) in
+    search rules
+
+pub overflow_mul-second : goal.overflow_mul-second
+overflow_mul-second c =
+    let fr : FitsSigned w128 c.args.right = search rules in
+    let fd : FitsSigned w128 (coefficient_at c.args.ys.now 0) = search rules in
+    let fits : FitsSigned w128 (to_z w128 (of_z w128 (coefficient_at c.args.ys.now 0)) *ℤ to_z w128 (of_z w128 c.args.right)) = product_fits (coefficient_at c.args.ys.now 0) c.args.right fd fr (one-right c.args.xs.now c.args.ys.now (unsigned_abs c.args.left) (unsigned_abs c.args.right) (some (length c.args.ys.now) (c.are_of_one_power.ensures.right c.if-are_of_one_power.true)) c.requires.small) in
+    search rules
+
+pub sum_at-requires : goal.sum_at-requires
+sum_at-requires c =
+    let fl : FitsSigned w128 c.args.left = search rules in
+    let fc : FitsSigned w128 (coefficient_at c.args.xs.now 0) = search rules in
+    let fr : FitsSigned w128 c.args.right = search rules in
+    let fd : FitsSigned w128 (coefficient_at c.args.ys.now 0) = search rules in
+    pair-small c.args.xs.now c.args.ys.now c.args.left c.args.right _ _ (c.are_of_one_power.ensures.left c.if-are_of_one_power.true) (c.are_of_one_power.ensures.right c.if-are_of_one_power.true)
+    (product_read (coefficient_at c.args.xs.now 0) c.args.left fc fl (one-left c.args.xs.now c.args.ys.now (unsigned_abs c.args.left) (unsigned_abs c.args.right) (some (length c.args.xs.now) (c.are_of_one_power.ensures.left c.if-are_of_one_power.true)) c.requires.small))
+    (product_read (coefficient_at c.args.ys.now 0) c.args.right fd fr (one-right c.args.xs.now c.args.ys.now (unsigned_abs c.args.left) (unsigned_abs c.args.right) (some (length c.args.ys.now) (c.are_of_one_power.ensures.right c.if-are_of_one_power.true)) c.requires.small)) c.requires.small
+
+pub returns-then-are_of_one_power-clause-terms : goal.returns-then-are_of_one_power-clause-terms
+returns-then-are_of_one_power-clause-terms c = λ n h g.
+    let fl : FitsSigned w128 c.args.left = search rules in
+    let fc : FitsSigned w128 (coefficient_at c.args.xs.now 0) = search rules in
+    c.sum_at.ensures.terms n (subst (IsTerm n 0 (exponent_at c.args.xs.now 0)) (sym (product_read (coefficient_at c.args.xs.now 0) c.args.left fc fl (one-left c.args.xs.now c.args.ys.now (unsigned_abs c.args.left) (unsigned_abs c.args.right) (some (length c.args.xs.now) (c.are_of_one_power.ensures.left c.if-are_of_one_power.true)) c.requires.small)))
+    (term-scaled n 0 (exponent_at c.args.xs.now 0) (coefficient_at c.args.xs.now 0) c.args.left c.requires.left (terms-at n 0 c.args.xs.now 0 h (some (length c.args.xs.now) (c.are_of_one_power.ensures.left c.if-are_of_one_power.true)))))
+
+pub returns-then-are_of_one_power-clause-sum : goal.returns-then-are_of_one_power-clause-sum
+returns-then-are_of_one_power-clause-sum c = λ n.
+    let fl : FitsSigned w128 c.args.left = search rules in
+    let fc : FitsSigned w128 (coefficient_at c.args.xs.now 0) = search rules in
+    let fr : FitsSigned w128 c.args.right = search rules in
+    let fd : FitsSigned w128 (coefficient_at c.args.ys.now 0) = search rules in
+    c.sum_at.ensures.sum n ∙ pair-combination c.args.xs.now c.args.ys.now c.args.left c.args.right _ _ (c.are_of_one_power.ensures.left c.if-are_of_one_power.true) (c.are_of_one_power.ensures.right c.if-are_of_one_power.true)
+    (product_read (coefficient_at c.args.xs.now 0) c.args.left fc fl (one-left c.args.xs.now c.args.ys.now (unsigned_abs c.args.left) (unsigned_abs c.args.right) (some (length c.args.xs.now) (c.are_of_one_power.ensures.left c.if-are_of_one_power.true)) c.requires.small))
+    (product_read (coefficient_at c.args.ys.now 0) c.args.right fd fr (one-right c.args.xs.now c.args.ys.now (unsigned_abs c.args.left) (unsigned_abs c.args.right) (some (length c.args.ys.now) (c.are_of_one_power.ensures.right c.if-are_of_one_power.true)) c.requires.small)) n (c.are_of_one_power.ensures.exponents c.if-are_of_one_power.true)
