@@ -133,11 +133,7 @@ fn add_whole(
 }
 
 /// The terms of a sum of any powers below n: the cost of `add_power` for each.
-pub(crate) fn collected(
-    alloc: Global,
-    n: u32,
-    terms: &[(u32, i64)],
-) -> Result<Terms, Memory>
+pub(crate) fn collected(alloc: Global, n: u32, terms: &[(u32, i64)]) -> Result<Terms, Memory>
     requires positive { 0 < n }
     requires few { n ≤ ORDER_LIMIT }
     requires exponents { All (λ t. t.0 < n) terms.now }
@@ -153,12 +149,24 @@ pub(crate) fn collected(
     Ok(sums)
 }
 
+/// The same terms: at most one allocation, and none for one term.
+pub(crate) fn copied(alloc: Global, terms: &[(u32, i128)]) -> Result<Terms, Memory>
+    ensures { IfOk result (λ v. v.items ≡ terms.now) }
+{
+    let count = terms.len();
+    if count == 0 {
+        return Ok(Terms::new(alloc));
+    }
+    if count == 1 {
+        let (place, only) = terms[0];
+        return Ok(Terms::from_buf(alloc, [(place, only)]));
+    }
+    let copy = Terms::from_slice(alloc, terms)?;
+    Ok(copy)
+}
+
 /// Each coefficient times a number: at most one allocation, none for one term, and as many steps as terms.
-pub(crate) fn scaled(
-    alloc: Global,
-    terms: &[(u32, i128)],
-    times: i128,
-) -> Result<Terms, Memory>
+pub(crate) fn scaled(alloc: Global, terms: &[(u32, i128)], times: i128) -> Result<Terms, Memory>
     requires { total terms.now * unsigned_abs times < 2 ^ 126 }
     ensures { IfOk result (λ v. v.items ≡ map (λ t. (t.0, t.1 *ℤ times)) terms.now) }
 {
@@ -175,11 +183,7 @@ pub(crate) fn scaled(
 }
 
 // Adds the terms, each times a number: a search by halves for each, and none for those behind all others.
-fn add_multiples(
-    sums: &mut Terms,
-    terms: &[(u32, i128)],
-    times: i128,
-) -> Result<(), Memory>
+fn add_multiples(sums: &mut Terms, terms: &[(u32, i128)], times: i128) -> Result<(), Memory>
     requires both { (n : ℕ) × AreTerms n 0 sums.old.items × AreTerms n 0 terms.now }
     requires nonzero { times ≢ pos 0 }
     requires small { total sums.old.items + total terms.now * unsigned_abs times < 2 ^ 126 }

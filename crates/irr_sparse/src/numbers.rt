@@ -4,7 +4,7 @@ ghost use Rattle.irr_cyc.specs.declared.orders.TheConstants.{ORDER_LIMIT};
 ghost use Rattle.irr_sparse.specs.TermList.{AreTerms, AreTerms-prop, IsLowest};
 ghost use Rattle.irr_sparse.specs.Value.{value_of};
 
-use crate::combinations::{collected, combination, moved, power, product, scaled};
+use crate::combinations::{collected, combination, copied, moved, power, product, scaled};
 use crate::lowest::to_lowest_terms;
 use crate::terms::{Terms, are_same};
 use irr_cyc::{Canon, Lift, Memory, ORDER_LIMIT, Order, Scalar};
@@ -154,7 +154,7 @@ impl Scalar for Sparse {
 
     /// At most one allocation, and none for one term.
     fn copy(&self, alloc: Global) -> Result<Sparse, Memory> {
-        let terms = Terms::from_slice(alloc, self.terms.as_slice())?;
+        let terms = copied(alloc, self.terms.as_slice())?;
         Ok(Sparse {
             n: self.n,
             den: self.den,

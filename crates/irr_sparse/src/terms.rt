@@ -62,11 +62,7 @@ fn place_of(terms: &[(u32, i128)], exponent: u32) -> usize
 }
 
 /// Adds a term. It is a search by halves, and the terms behind the place move where a term comes or goes.
-pub(crate) fn add_term(
-    terms: &mut Terms,
-    exponent: u32,
-    coefficient: i128,
-) -> Result<(), Memory>
+pub(crate) fn add_term(terms: &mut Terms, exponent: u32, coefficient: i128) -> Result<(), Memory>
     requires increasing { IsIncreasing terms.old.items }
     requires small { total terms.old.items + unsigned_abs coefficient < 2 ^ 126 }
     ensures terms { OnOk result ((n : ℕ) → AreTerms n 0 terms.old.items → IsTerm n 0 exponent coefficient → AreTerms n 0 terms.new.items) }

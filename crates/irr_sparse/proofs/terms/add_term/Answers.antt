@@ -68,7 +68,7 @@ written slice ts k t e = written-terms ts (slice_set slice k t) (length ts) (len
 
 set : (c : goal.After-terms-1) → Added c.args.terms.now.items
     (take (length c.args.terms.now.items) (slice_set c.as_mut_slice.result.now c.place_of-place.result (c.args.exponent, to_z w128 (of_z w128 (to_z w128 (of_z w128 (slice_index_or c.as_slice-2.result.now c.place_of-place.result (0, pos 0)).1) +ℤ to_z w128 (of_z w128 c.args.coefficient))))
-      ++ drop (length (slice_set c.as_mut_slice.result.now c.place_of-place.result (c.args.exponent, to_z w128 (of_z w128 (to_z w128 (of_z w128 (slice_index_or c.as_slice-2.result.now c.place_of-place.result (0, pos 0)).1) +ℤ to_z w128 (of_z w128 c.args.coefficient)))))) c.args.terms.now.items)) c.args.exponent c.args.coefficient
+    ++ drop (length (slice_set c.as_mut_slice.result.now c.place_of-place.result (c.args.exponent, to_z w128 (of_z w128 (to_z w128 (of_z w128 (slice_index_or c.as_slice-2.result.now c.place_of-place.result (0, pos 0)).1) +ℤ to_z w128 (of_z w128 c.args.coefficient)))))) c.args.terms.now.items)) c.args.exponent c.args.coefficient
 set c =
     let place : IsPlace c.args.terms.now.items c.place_of-place.result c.args.exponent = place_in c.as_slice.result.now c.args.terms.now.items c.place_of-place.result c.args.exponent c.as_slice.ensures c.place_of-place.ensures.within c.place_of-place.ensures.before c.place_of-place.ensures.after in
     let end : c.len.result ≡ length c.args.terms.now.items = c.len.ensures.value in
