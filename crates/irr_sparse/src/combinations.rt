@@ -254,8 +254,34 @@ fn sum_at(alloc: Global, exponent: u32, first: i128, second: i128) -> Terms
     Terms::from_buf(alloc, [(exponent, sum)])
 }
 
-/// The terms of `left` times a number and `right` times another, of one order, taken in increasing order: as many
-/// steps as terms, and no allocation for two terms of one power.
+// The two lists, each times a number, taken in increasing order: one allocation, and as many steps as terms.
+fn merged(
+    alloc: Global,
+    xs: &[(u32, i128)],
+    left: i128,
+    ys: &[(u32, i128)],
+    right: i128,
+) -> Result<Terms, Memory>
+    requires both { (n : ℕ) × AreTerms n 0 xs.now × AreTerms n 0 ys.now }
+    requires left { left ≢ pos 0 }
+    requires right { right ≢ pos 0 }
+    requires small { total xs.now * unsigned_abs left + total ys.now * unsigned_abs right < 2 ^ 110 }
+    ensures terms { IfOk result (λ v. (n : ℕ) → AreTerms n 0 xs.now → AreTerms n 0 ys.now → AreTerms n 0 v.items) }
+    ensures sum { IfOk result (λ v. (n : ℕ) → terms_sum n v.items ≡ (numbers n).add ((numbers n).mul (integer (numbers n) left) (terms_sum n xs.now)) ((numbers n).mul (integer (numbers n) right) (terms_sum n ys.now))) }
+{
+    let mut sums = Terms::with_capacity(alloc, xs.len() + ys.len())?;
+    let mut from = 0;
+    for (exponent, coefficient) in xs {
+        from = add_below(&mut sums, ys, from, right, *exponent)?;
+        add_term(&mut sums, *exponent, *coefficient * left)?;
+    }
+    add_multiples(&mut sums, &ys[from..], right)?;
+    Ok(sums)
+}
+
+/// The terms of `left` times a number and `right` times another, of one order: as many steps as terms, and no
+/// allocation for two terms of one power.
+#[inline]
 pub(crate) fn combination(
     alloc: Global,
     xs: &[(u32, i128)],
@@ -275,12 +301,6 @@ pub(crate) fn combination(
         let (_, second) = ys[0];
         return Ok(sum_at(alloc, place, first * left, second * right));
     }
-    let mut sums = Terms::with_capacity(alloc, xs.len() + ys.len())?;
-    let mut from = 0;
-    for (exponent, coefficient) in xs {
-        from = add_below(&mut sums, ys, from, right, *exponent)?;
-        add_term(&mut sums, *exponent, *coefficient * left)?;
-    }
-    add_multiples(&mut sums, &ys[from..], right)?;
+    let sums = merged(alloc, xs, left, ys, right)?;
     Ok(sums)
 }
