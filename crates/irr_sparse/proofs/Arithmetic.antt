@@ -1,14 +1,16 @@
 -- The numbers that sums, products, multiples and lifts of terms stand for.
 --   combined-number, multiplied-number, scaled-number, lifted-number     by their terms and denominators
 --   size-bound, product-bound ..    what the conditions on sizes and denominators say of terms
-use Rattle.std.proofs.Common.{◌≡◌, sym, ◌∙◌, ap, ap₂, subst, ℕ, ℤ, pos, negsuc, ◌+◌, ◌*◌, ◌/◌, ◌^◌, ◌<◌, ◌≤◌, ◌*ℤ◌, List, All, inl, inr, arith}
+use Rattle.std.proofs.Common.{◌≡◌, sym, ◌∙◌, ap, ap₂, subst, ℕ, ℤ, pos, negsuc, ◌+◌, ◌*◌, ◌/◌, ◌^◌, ◌<◌, ◌≤◌, ◌*ℤ◌, List, All, inl, inr, arith, Bool, true, ◌==◌, length}
+use Rattle.std.proofs.lemmas.List.{nil_from_length}
+use Rattle.std.proofs.lemmas.Grind.{common_steps}
 use Rattle.std.proofs.lemmas.Bool.{cases_lt}
 use Rattle.std.proofs.lemmas.List.Elements.{All-weaker}
 use Rattle.std.specs.Int.{◌∣◌}
 use native.Mathlib.Nat as Nat
 use Rattle.irr_algebra.specs.Ring.{Ring, whole}
 use Rattle.irr_algebra.proofs.Homomorphisms.{map-whole}
-use Rattle.irr_algebra.proofs.Rings.{mul-zero, mul_left_comm, neg-mul, one-mul, ring_laws, zero-mul}
+use Rattle.irr_algebra.proofs.Rings.{mul-zero, mul_left_comm, neg-mul, one-mul, ring_laws, zero-mul, neg-zero, zero-add}
 use Rattle.irr_algebra.proofs.Whole.{whole-mul, whole-one}
 use Rattle.irr_number.specs.Lift.{lift, lift_of}
 use Rattle.irr_number.specs.Number.{Number, numbers, root_power}
@@ -22,7 +24,7 @@ use Rattle.irr_sparse.specs.TermList.{AreTerms, IsLowest, row_sum, total}
 use Rattle.irr_sparse.specs.Value.{value_of}
 use Rattle.irr_sparse.proofs.Forms.{form-denominator, form-size}
 use Rattle.irr_sparse.proofs.Sums.{row-lift}
-use Rattle.irr_sparse.proofs.Values.{exponents-below, value-is, value-mul}
+use Rattle.irr_sparse.proofs.Values.{exponents-below, value-is, value-mul, value-none}
 
 -- a number with terms in the basis and in lowest terms
 pub record IsForm (n : ℕ) (ts : List (ℕ × ℤ)) (d : ℕ) : Type 0 where
@@ -119,6 +121,22 @@ once n x y = ap (λ k. (numbers n).add x ((numbers n).mul k y)) (integer-one (nu
 
 pub minus_once : (n : ℕ) (x y : Number n) → (numbers n).add x ((numbers n).mul (integer (numbers n) (negsuc 0)) y) ≡ (numbers n).add x ((numbers n).neg y)
 minus_once n x y = ap (λ k. (numbers n).add x ((numbers n).mul k y)) (integer-neg (numbers n) (pos 1) ∙ ap (numbers n).neg (integer-one (numbers n))) ∙ ap ((numbers n).add x) (neg-mul (numbers n) (numbers n).one y ∙ ap (numbers n).neg (one-mul (numbers n) y))
+
+-- nothing added, or taken away
+no_items : (n : ℕ) (b : Bool) → b ≡ (n == 0) → b ≡ true → n ≡ 0
+no_items n b e t = grind (arith, common_steps)
+
+nothing-is : (n : ℕ) (ts : List (ℕ × ℤ)) (d : ℕ) (b : Bool) → 0 < d → b ≡ (length ts == 0) → b ≡ true → value_of n ts d ≡ (numbers n).zero
+nothing-is n ts d b p e t = ap (λ (us : List (ℕ × ℤ)). value_of n us d) (nil_from_length ts (no_items (length ts) b e t)) ∙ value-none n d p
+
+pub plus-nothing : (n : ℕ) (ts : List (ℕ × ℤ)) (d : ℕ) (b : Bool) (x : Number n) → 0 < d → b ≡ (length ts == 0) → b ≡ true → (numbers n).add x (value_of n ts d) ≡ x
+plus-nothing n ts d b x p e t = ap ((numbers n).add x) (nothing-is n ts d b p e t) ∙ (numbers n).add-zero x
+
+pub nothing-plus : (n : ℕ) (ts : List (ℕ × ℤ)) (d : ℕ) (b : Bool) (x : Number n) → 0 < d → b ≡ (length ts == 0) → b ≡ true → (numbers n).add (value_of n ts d) x ≡ x
+nothing-plus n ts d b x p e t = ap (λ y. (numbers n).add y x) (nothing-is n ts d b p e t) ∙ zero-add (numbers n) x
+
+pub minus-nothing : (n : ℕ) (ts : List (ℕ × ℤ)) (d : ℕ) (b : Bool) (x : Number n) → 0 < d → b ≡ (length ts == 0) → b ≡ true → (numbers n).add x ((numbers n).neg (value_of n ts d)) ≡ x
+minus-nothing n ts d b x p e t = ap (λ y. (numbers n).add x ((numbers n).neg y)) (nothing-is n ts d b p e t) ∙ ap ((numbers n).add x) (neg-zero (numbers n)) ∙ (numbers n).add-zero x
 
 -- over 1
 pub whole-number : (n : ℕ) (zs : List (ℕ × ℤ)) (x : Number n) → 0 < n → AreTerms n 0 zs → terms_sum n zs ≡ x → value_of n zs 1 ≡ x

@@ -9,6 +9,7 @@ pub mod Values
 pub mod Forms
 pub mod Rows
 pub mod Products
+pub mod Pairs
 pub mod Divisors
 pub mod Arithmetic
 pub mod FormsOf

@@ -5,7 +5,7 @@ ghost use Rattle.irr_number.specs.Number.{numbers, root_power};
 ghost use Rattle.irr_rational.specs.Integer.{integer};
 ghost use Rattle.irr_cyc.specs.Terms.{terms_sum};
 ghost use Rattle.irr_cyc.specs.declared.orders.TheConstants.{ORDER_LIMIT};
-ghost use Rattle.irr_sparse.specs.TermList.{AreTerms, exponent_at, row_sum, total};
+ghost use Rattle.irr_sparse.specs.TermList.{AreTerms, IsTerm, exponent_at, row_sum, total};
 ghost use Rattle.irr_sparse.specs.Parts.{AreParts, IsFreeOutside, weight};
 
 use crate::parts::{Part, parts_of};
@@ -149,12 +149,33 @@ pub(crate) fn collected(alloc: Global, n: u32, terms: &[(u32, i64)]) -> Result<T
     Ok(sums)
 }
 
-/// Each coefficient times a number: one allocation, and as many steps as terms.
+/// The same terms: at most one allocation, and none for one term.
+pub(crate) fn copied(alloc: Global, terms: &[(u32, i128)]) -> Result<Terms, Memory>
+    ensures { IfOk result (λ v. v.items ≡ terms.now) }
+{
+    let count = terms.len();
+    if count == 0 {
+        return Ok(Terms::new(alloc));
+    }
+    if count == 1 {
+        let (place, only) = terms[0];
+        return Ok(Terms::from_buf(alloc, [(place, only)]));
+    }
+    let copy = Terms::from_slice(alloc, terms)?;
+    Ok(copy)
+}
+
+/// Each coefficient times a number: at most one allocation, none for one term, and as many steps as terms.
 pub(crate) fn scaled(alloc: Global, terms: &[(u32, i128)], times: i128) -> Result<Terms, Memory>
     requires { total terms.now * unsigned_abs times < 2 ^ 126 }
     ensures { IfOk result (λ v. v.items ≡ map (λ t. (t.0, t.1 *ℤ times)) terms.now) }
 {
-    let mut products = Terms::with_capacity(alloc, terms.len())?;
+    let count = terms.len();
+    if count == 1 {
+        let (place, only) = terms[0];
+        return Ok(Terms::from_buf(alloc, [(place, only * times)]));
+    }
+    let mut products = Terms::with_capacity(alloc, count)?;
     for (exponent, coefficient) in terms {
         products.push((*exponent, *coefficient * times))?;
     }
@@ -205,9 +226,36 @@ fn add_below(
     Ok(next)
 }
 
-/// The terms of `left` times a number and `right` times another, of one order, taken in increasing order: one
-/// allocation, and as many steps as terms.
-pub(crate) fn combination(
+// Whether two lists are one term each, of one power.
+fn are_of_one_power(xs: &[(u32, i128)], ys: &[(u32, i128)]) -> bool
+    ensures left { IsTrue result → length xs.now ≡ 1 }
+    ensures right { IsTrue result → length ys.now ≡ 1 }
+    ensures exponents { IsTrue result → exponent_at xs.now 0 ≡ exponent_at ys.now 0 }
+{
+    if xs.len() != 1 {
+        return false;
+    }
+    if ys.len() != 1 {
+        return false;
+    }
+    xs[0].0 == ys[0].0
+}
+
+// The sum of two multiples of one power. No memory is needed.
+fn sum_at(alloc: Global, exponent: u32, first: i128, second: i128) -> Terms
+    requires { unsigned_abs first + unsigned_abs second < 2 ^ 126 }
+    ensures terms { (n : ℕ) → IsTerm n 0 exponent first → AreTerms n 0 result.items }
+    ensures sum { (n : ℕ) → terms_sum n result.items ≡ (numbers n).add ((numbers n).mul (integer (numbers n) first) (root_power n exponent)) ((numbers n).mul (integer (numbers n) second) (root_power n exponent)) }
+{
+    let sum = first + second;
+    if sum == 0 {
+        return Terms::new(alloc);
+    }
+    Terms::from_buf(alloc, [(exponent, sum)])
+}
+
+// The two lists, each times a number, taken in increasing order: one allocation, and as many steps as terms.
+fn merged(
     alloc: Global,
     xs: &[(u32, i128)],
     left: i128,
@@ -228,5 +276,31 @@ pub(crate) fn combination(
         add_term(&mut sums, *exponent, *coefficient * left)?;
     }
     add_multiples(&mut sums, &ys[from..], right)?;
+    Ok(sums)
+}
+
+/// The terms of `left` times a number and `right` times another, of one order: as many steps as terms, and no
+/// allocation for two terms of one power.
+#[inline]
+pub(crate) fn combination(
+    alloc: Global,
+    xs: &[(u32, i128)],
+    left: i128,
+    ys: &[(u32, i128)],
+    right: i128,
+) -> Result<Terms, Memory>
+    requires both { (n : ℕ) × AreTerms n 0 xs.now × AreTerms n 0 ys.now }
+    requires left { left ≢ pos 0 }
+    requires right { right ≢ pos 0 }
+    requires small { total xs.now * unsigned_abs left + total ys.now * unsigned_abs right < 2 ^ 110 }
+    ensures terms { IfOk result (λ v. (n : ℕ) → AreTerms n 0 xs.now → AreTerms n 0 ys.now → AreTerms n 0 v.items) }
+    ensures sum { IfOk result (λ v. (n : ℕ) → terms_sum n v.items ≡ (numbers n).add ((numbers n).mul (integer (numbers n) left) (terms_sum n xs.now)) ((numbers n).mul (integer (numbers n) right) (terms_sum n ys.now))) }
+{
+    if are_of_one_power(xs, ys) {
+        let (place, first) = xs[0];
+        let (_, second) = ys[0];
+        return Ok(sum_at(alloc, place, first * left, second * right));
+    }
+    let sums = merged(alloc, xs, left, ys, right)?;
     Ok(sums)
 }

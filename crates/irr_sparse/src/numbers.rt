@@ -4,14 +4,15 @@ ghost use Rattle.irr_cyc.specs.declared.orders.TheConstants.{ORDER_LIMIT};
 ghost use Rattle.irr_sparse.specs.TermList.{AreTerms, AreTerms-prop, IsLowest};
 ghost use Rattle.irr_sparse.specs.Value.{value_of};
 
-use crate::combinations::{collected, combination, moved, power, product, scaled};
+use crate::combinations::{collected, combination, copied, moved, power, product, scaled};
 use crate::lowest::to_lowest_terms;
 use crate::terms::{Terms, are_same};
 use irr_cyc::{Canon, Lift, Memory, ORDER_LIMIT, Order, Scalar};
 use std::alloc::Global;
 
 /// A number as its terms (j, c) for c z^j over one denominator: the canonical form, with the exponents of the basis
-/// in increasing order, coefficients that are not 0, and in lowest terms. So 0 takes no memory.
+/// in increasing order, coefficients that are not 0, and in lowest terms. So 0 and multiples of one
+/// power take no memory.
 #[derive(Drop)]
 pub struct Sparse {
     n: u32,
@@ -81,8 +82,17 @@ impl Scalar for Sparse {
         self.n
     }
 
-    /// As many steps as terms, and searches by halves; one allocation that mostly suffices.
+    /// As many steps as terms, and searches by halves; one allocation that mostly suffices, and none where one number
+    /// is 0 and the other has one term, or where they have one term each, of one power.
     fn add(&self, alloc: Global, other: &Sparse) -> Result<Sparse, Memory> {
+        if other.terms.is_empty() {
+            let same = self.copy(alloc)?;
+            return Ok(same);
+        }
+        if self.terms.is_empty() {
+            let same = other.copy(alloc)?;
+            return Ok(same);
+        }
         if self.den == other.den {
             let sums = combination(alloc, self.terms.as_slice(), 1, other.terms.as_slice(), 1)?;
             return Ok(Sparse::of_terms(self.n, sums, self.den));
@@ -99,6 +109,10 @@ impl Scalar for Sparse {
 
     /// As `add`.
     fn sub(&self, alloc: Global, other: &Sparse) -> Result<Sparse, Memory> {
+        if other.terms.is_empty() {
+            let same = self.copy(alloc)?;
+            return Ok(same);
+        }
         if self.den == other.den {
             let differences = combination(
                 alloc,
@@ -138,9 +152,9 @@ impl Scalar for Sparse {
         Ok(Sparse::of_terms(self.n, products, self.den * den))
     }
 
-    /// One allocation.
+    /// At most one allocation, and none for one term.
     fn copy(&self, alloc: Global) -> Result<Sparse, Memory> {
-        let terms = Terms::from_slice(alloc, self.terms.as_slice())?;
+        let terms = copied(alloc, self.terms.as_slice())?;
         Ok(Sparse {
             n: self.n,
             den: self.den,

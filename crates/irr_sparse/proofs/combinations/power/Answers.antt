@@ -1,5 +1,5 @@
 -- The terms of one power.
-use Rattle.std.proofs.Common.{◌≡◌, sym, ◌∙◌, ap, subst, ℕ, ℤ, pos, ◌<◌, List, [], ◌∷◌, ◌++◌, arith}
+use Rattle.std.proofs.Common.{◌≡◌, sym, ◌∙◌, ap, subst, ℕ, ℤ, pos, ◌<◌, List, [], ◌∷◌, arith}
 use Rattle.irr_number.specs.Number.{root_power}
 use Rattle.irr_cyc.specs.Terms.{terms_sum}
 use Rattle.irr_sparse.specs.Parts.{IsFreeOutside}

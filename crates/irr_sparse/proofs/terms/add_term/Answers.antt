@@ -1,5 +1,5 @@
 -- The four ways to add a term.
-use Rattle.std.proofs.Common.{rules, ◌≡◌, ◌∙◌, ap, ℕ, List, ℤ, pos, ◌+◌, ◌<◌, ◌≤◌, ◌^◌, ◌+ℤ◌, ◌++◌, take, drop, length, length-set, slice_set, slice_index_or, unsigned_abs, to_z, of_z, arith}
+use Rattle.std.proofs.Common.{◌≡◌, ◌∙◌, ap, ℕ, List, ℤ, pos, ◌+◌, ◌<◌, ◌≤◌, ◌^◌, ◌+ℤ◌, ◌++◌, take, drop, length, length-set, slice_set, slice_index_or, unsigned_abs, to_z, of_z, arith}
 use Rattle.std.proofs.lemmas.List.{get_or_default}
 use mir.Syntax.{w128}
 use Rattle.irr_cyc.proofs.Written.{kept}

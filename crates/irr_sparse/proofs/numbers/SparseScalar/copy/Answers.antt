@@ -6,7 +6,7 @@ use Rattle.irr_sparse.proofs.numbers.SparseScalar.copy.Goals as goal
 
 pub invariant_of-result : goal.invariant_of-result
 invariant_of-result c =
-    let same : c.in_ok-terms.terms.items ≡ c.args.self.now.terms.items = c.in_ok-terms.ensures.ok ∙ c.as_slice.ensures in
+    let same : c.in_ok-terms.terms.items ≡ c.args.self.now.terms.items = c.in_ok-terms.ensures ∙ c.as_slice.ensures in
     record {
       some = c.args.self.now.some;
       few = c.args.self.now.few;
@@ -16,4 +16,4 @@ invariant_of-result c =
     }
 
 pub returns-clause-value : goal.returns-clause-value
-returns-clause-value c = ap (λ (ts : List (ℕ × ℤ)). value_of c.args.self.now.n ts c.args.self.now.den) (c.in_ok-terms.ensures.ok ∙ c.as_slice.ensures)
+returns-clause-value c = ap (λ (ts : List (ℕ × ℤ)). value_of c.args.self.now.n ts c.args.self.now.den) (c.in_ok-terms.ensures ∙ c.as_slice.ensures)

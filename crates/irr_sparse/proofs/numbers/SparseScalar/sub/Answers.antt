@@ -1,9 +1,9 @@
 -- Differences of canonical forms.
-use Rattle.std.proofs.Common.{rules, ◌≡◌, sym, ◌∙◌, ap, subst, pos, negsuc, ◌+◌, ◌*◌, ◌<◌, ◌≤◌, ◌^◌, ◌*ℤ◌, ◌-ℤ◌, [], unsigned_abs, to_z, of_z, refl, arith}
+use Rattle.std.proofs.Common.{rules, ◌≡◌, sym, ◌∙◌, ap, subst, pos, negsuc, ◌+◌, ◌*◌, ◌<◌, ◌≤◌, ◌^◌, ◌*ℤ◌, ◌-ℤ◌, [], unsigned_abs, to_z, of_z, refl, arith, length, ◌==◌}
 use mir.Syntax.{w128}
 use Rattle.irr_sparse.specs.TermList.{total}
 use Rattle.irr_sparse.specs.Value.{value_of}
-use Rattle.irr_sparse.proofs.Arithmetic.{combined-number, combined-same, dens-bound, minus_once, small_of_slices, sum_of_slices, sums-bound, sums-bound_same, terms_of_slices}
+use Rattle.irr_sparse.proofs.Arithmetic.{combined-number, combined-same, dens-bound, minus_once, small_of_slices, sum_of_slices, sums-bound, sums-bound_same, terms_of_slices, minus-nothing}
 use Rattle.irr_sparse.proofs.FormsOf.{form_at, form_of}
 use Rattle.irr_sparse.proofs.Words.{den_negative, den_read, times-abs}
 use Rattle.irr_sparse.proofs.numbers.SparseScalar.sub.Goals as goal
@@ -44,3 +44,7 @@ returns-clause-value c =
     ∙ combined-number c.args.self.now.n c.args.self.now.terms.items c.args.other.now.terms.items c.args.self.now.den c.args.other.now.den (form_of c.args.self.now) (form_at c.args.other.now c.args.self.now.n c.requires.orders) c.in_ok-differences-2.differences.items (to_z w128 (of_z w128 c.from.result)) (to_z w128 (of_z w128 (pos 0 -ℤ to_z w128 (of_z w128 c.from-2.result)))) (negsuc 0) (terms_of_slices c.args.self.now.n c.as_slice-2.result.now c.as_slice-3.result.now c.args.self.now.terms.items c.args.other.now.terms.items c.in_ok-differences-2.differences.items c.as_slice-2.ensures c.as_slice-3.ensures c.in_ok-differences-2.ensures.terms c.args.self.now.canonical (form_at c.args.other.now c.args.self.now.n c.requires.orders).terms) u v
     (sum_of_slices c.args.self.now.n c.as_slice-2.result.now c.as_slice-3.result.now c.args.self.now.terms.items c.args.other.now.terms.items c.in_ok-differences-2.differences.items c.as_slice-2.ensures c.as_slice-3.ensures (to_z w128 (of_z w128 c.from.result)) (to_z w128 (of_z w128 (pos 0 -ℤ to_z w128 (of_z w128 c.from-2.result)))) (c.in_ok-differences-2.ensures.sum c.args.self.now.n))
     ∙ minus_once c.args.self.now.n (value_of c.args.self.now.n c.args.self.now.terms.items c.args.self.now.den) (value_of c.args.self.now.n c.args.other.now.terms.items c.args.other.now.den)
+
+pub returns-then-is_empty-clause-value : goal.returns-then-is_empty-clause-value
+returns-then-is_empty-clause-value c = let e : c.is_empty.result ≡ (length c.args.other.now.terms.items == 0) = (let l = c.is_empty.ensures in search rules) in
+    c.in_ok-same.ensures.value ∙ sym (minus-nothing c.args.self.now.n c.args.other.now.terms.items c.args.other.now.den c.is_empty.result (value_of c.args.self.now.n c.args.self.now.terms.items c.args.self.now.den) c.args.other.now.positive e c.if-is_empty.true)

@@ -5,7 +5,7 @@ use Rattle.irr_number.specs.Number.{numbers}
 use Rattle.irr_rational.specs.Integer.{integer}
 use Rattle.irr_cyc.specs.Terms.{terms_sum}
 use Rattle.irr_sparse.specs.TermList.{AreTerms, total}
-use Rattle.irr_sparse.proofs.combinations.combination.Given as goal
+use Rattle.irr_sparse.proofs.combinations.merged.Given as goal
 
 abbrev pub invariant-loop-exponent : goal.invariant-loop-exponent
 invariant-loop-exponent l = record {
