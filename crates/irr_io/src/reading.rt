@@ -56,7 +56,8 @@ impl From<AllocError> for InFault {
     }
 }
 
-const FIRST_ROOM: usize = 64 * 1024;
+// The room for the first read; it doubles whenever it is full.
+const FIRST_ROOM: usize = 4 * 1024;
 
 /// Reads `source` to its end, and returns all bytes, at most `limit` of them. Refused at the first
 /// read that fails, as soon as more bytes came, and for want of memory.
