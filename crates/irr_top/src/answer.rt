@@ -112,8 +112,8 @@ fn answer_task<O: Sink>(alloc: Global, task: &Task, lines: &[GenLine], sink: &mu
     }
 }
 
-// The operations on these lines.
-fn operations(alloc: Global, lines: &[GenLine]) -> Result<Vec<Op>, Memory>
+/// The operations on these lines.
+pub(crate) fn operations(alloc: Global, lines: &[GenLine]) -> Result<Vec<Op>, Memory>
     ensures { IfOk result (λ ops. ops.items ≡ operations_of lines.now) }
 {
     let mut ops = Vec::new(alloc);

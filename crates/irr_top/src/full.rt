@@ -20,6 +20,7 @@ ghost use Rattle.irr_top.specs.FullFamilies.{IsInducible, AreInducedFrom};
 use crate::reply::{NoReply, Reply};
 use crate::small::{reduced_wave, small_list};
 use crate::status::Status;
+use crate::task::Number;
 use irr_close::Group;
 use irr_cyc::Scalar;
 use irr_full_text::text_full;
@@ -62,7 +63,7 @@ fn text_at(alloc: Global, group: &Group, wave: &Wave, t: &Twisted) -> Result<Vec
         text.items) }
 {
     let arms = star(alloc, group, wave)?;
-    let families = small_list(alloc, t)?;
+    let families = small_list::<Number>(alloc, t)?;
     let fulls = induced(alloc, group, &arms, t, &families)?;
     let text = text_full(alloc, group, &arms, t, &fulls)?;
     Ok(text)

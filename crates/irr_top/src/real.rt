@@ -21,6 +21,7 @@ ghost use Rattle.irr_top.specs.RealFamilies.{IsTypeable, IsTyped, AreTyped, row_
 use crate::reply::{NoReply, Reply};
 use crate::small::{reduced_wave, small_list};
 use crate::status::Status;
+use crate::task::Number;
 use irr_close::Group;
 use irr_cyc::Scalar;
 use irr_kvec::Wave;
@@ -70,7 +71,7 @@ fn types_text(alloc: Global, group: &Group, wave: &Wave, t: &Twisted) -> Result<
 {
     let arms = star(alloc, group, wave)?;
     let count = arm_count(&arms);
-    let families = small_list(alloc, t)?;
+    let families = small_list::<Number>(alloc, t)?;
     let rows = typed(alloc, group, wave, t, count, &families)?;
     let text = lines(alloc, wave, t.order(), &rows)?;
     Ok(text)

@@ -23,6 +23,7 @@ use crate::status::Status;
 use crate::task::Number;
 use irr_climb::{ClimbError, small_reps};
 use irr_close::Group;
+use irr_cyc::Lift;
 use irr_kvec::{Wave, reduced};
 use irr_little::{LittleError, little};
 use irr_memory::Memory;
@@ -38,13 +39,17 @@ pub(crate) fn small_reply(alloc: Global, group: &Group, k: &Wave) -> Result<Repl
     ensures none { (gens : List Op) → IsGroupOf group.now gens
         → IfErr result (IsNoReply (asked (wave_vector k.now)) (group_of gens)) }
 {
-    let text = small_text(alloc, group, k)?;
+    let text = small_text::<Number>(alloc, group, k)?;
     let status = Status::Done;
     Ok(Reply { status, text })
 }
 
-// The text of the report at a wave vector of a group.
-fn small_text(alloc: Global, group: &Group, k: &Wave) -> Result<Vec<u8>, NoReply>
+/// The text of the report at a wave vector of a group, with numbers of this type.
+pub(crate) fn small_text<S: Lift>(
+    alloc: Global,
+    group: &Group,
+    k: &Wave,
+) -> Result<Vec<u8>, NoReply>
     requires group { (gens : List Op) × IsGroupOf group.now gens }
     requires limits { IsWithinLimits k.now }
     ensures text { (gens : List Op) → IsGroupOf group.now gens
@@ -55,7 +60,7 @@ fn small_text(alloc: Global, group: &Group, k: &Wave) -> Result<Vec<u8>, NoReply
     let wave = reduced_wave(group, k);
     match little(alloc, group, &wave) {
         Ok(t) => {
-            let text = table_text(alloc, group, wave, &t)?;
+            let text = table_text::<S>(alloc, group, wave, &t)?;
             Ok(text)
         }
         Err(LittleError::OrderTooLarge(order)) => Err(NoReply::OrderTooLarge(order)),
@@ -75,28 +80,33 @@ pub(crate) fn reduced_wave(group: &Group, wave: &Wave) -> Wave
 }
 
 // The text of the report with this table of phases of the little group.
-fn table_text(alloc: Global, group: &Group, wave: Wave, t: &Twisted) -> Result<Vec<u8>, Memory>
+fn table_text<S: Lift>(
+    alloc: Global,
+    group: &Group,
+    wave: Wave,
+    t: &Twisted,
+) -> Result<Vec<u8>, Memory>
     requires table { IsLittleTable group.now (wave_vector wave) (operation_places t.now) (phase_table t.now) }
     requires within { (phase_table t.now).order ≤ ORDER_LIMIT }
     requires steps { HasSteps (phase_table t.now) }
     ensures { (d : Op) → IfOk result (λ text. IsListText (wave_vector wave)
         (listed_operations group.now (place_count t.now) (operation_places t.now) d) (phase_table t.now) text.items) }
 {
-    let families = small_list(alloc, t)?;
+    let families = small_list::<S>(alloc, t)?;
     let text = list_text(alloc, group, wave, t, families)?;
     Ok(text)
 }
 
 /// A complete list of small representations of the table of a little group, in canonical order. The error is want
 /// of memory.
-pub(crate) fn small_list(alloc: Global, t: &Twisted) -> Result<Vec<Family<Number>>, Memory>
+pub(crate) fn small_list<S: Lift>(alloc: Global, t: &Twisted) -> Result<Vec<Family<S>>, Memory>
     requires within { (phase_table t.now).order ≤ ORDER_LIMIT }
     requires steps { HasSteps (phase_table t.now) }
     ensures list { IfOk result (λ fs. IsSmallList (phase_table t.now) fs.items) }
     ensures sizes { IfOk result (λ fs. All (HasSharpSizes (phase_table t.now).order (place_count t.now)) fs.items) }
     ensures numbers { IfOk result (λ fs. All (HasSmallNumbers (phase_table t.now).order (place_count t.now)) fs.items) }
 {
-    match small_reps::<Number>(alloc, t) {
+    match small_reps::<S>(alloc, t) {
         Ok(families) => Ok(families),
         Err(ClimbError::Unchained(_)) => unreachable!(),
         Err(ClimbError::Memory) => Err(Memory),

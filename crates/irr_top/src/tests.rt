@@ -1,3 +1,4 @@
+mod numbers;
 mod quoted;
 
 use super::*;
