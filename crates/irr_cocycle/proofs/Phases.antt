@@ -1,4 +1,5 @@
 -- Phases of translations at a wave vector.
+--   order_at                the order of a wave vector is a multiple of it
 --   phase_unique            a translation has one phase
 --   phase_of_translation    each translation of a group has a phase, of the order of the wave vector
 --   phase-null              that of no translation is 0
@@ -20,6 +21,7 @@ use Rattle.irr_lattice.proofs.Remainders.{euclid}
 use Rattle.irr_space.specs.Operation.{Operation, Vector, WaveVector, dot}
 use Rattle.irr_space.specs.SpaceGroup.{IsTranslation}
 use Rattle.irr_space.specs.Reciprocal.{IsOrder, IsPhase, Sign, sign_number, times}
+use Rattle.irr_cocycle.specs.SubgroupTable.{IsOrderAt}
 use Rattle.irr_cocycle.proofs.Operations.{dot-times, dot-null}
 
 -- a number is b and a multiple of n
@@ -68,18 +70,28 @@ module _ (s : Sign) (n : ℕ) (k : WaveVector) where
       times_zero : (x : Rational) → rationals.mul x rationals.zero ≡ rationals.zero
       times_zero x = simp (ring_laws, rationals)
 
-module _ (G : Operation → Type 0) (s : Sign) (k : WaveVector) (n : ℕ) (order : IsOrder G k n) where
+pub order_at : (G : Operation → Type 0) (k : WaveVector) (n : ℕ) → IsOrder G k n → IsOrderAt G k n
+order_at G k n order = record {
+  exponent = order.exponent;
+  multiple = order.period;
+  is_exponent = order.is_exponent;
+  positive = order.is_period.positive;
+  reciprocal = order.is_period.reciprocal;
+  is_product = order.is_product;
+}
+
+module _ (G : Operation → Type 0) (s : Sign) (k : WaveVector) (n : ℕ) (order : IsOrderAt G k n) where
   -- the number of turns of q k at a translation
-  turns : (t : Vector) → IsTranslation G t → IsWhole (dot (times order.period k) t)
-  turns t m = order.is_period.reciprocal.is_whole t m
+  turns : (t : Vector) → IsTranslation G t → IsWhole (dot (times order.multiple k) t)
+  turns t m = order.reciprocal.is_whole t m
 
   -- s n k.t is a multiple of the exponent
   pub phase-multiple : (t : Vector) → IsTranslation G t → (w : ℤ) × (turned_phase s n k t ≡ integer rationals (w *ℤ pos order.exponent))
   phase-multiple t m = (
     sign_number s *ℤ (turns t m).number,
-    ap (λ x. rationals.mul x (dot k t)) (integer-mul rationals (sign_number s) (pos n) ∙ ap (rationals.mul (integer rationals (sign_number s))) (integer-pos rationals n ∙ ap (whole rationals) order.is_product ∙ whole-mul rationals order.exponent order.period))
-        ∙ regroup (integer rationals (sign_number s)) (whole rationals order.exponent) (whole rationals order.period) (dot k t)
-        ∙ ap (λ x. rationals.mul (rationals.mul (integer rationals (sign_number s)) x) (whole rationals order.exponent)) (sym (dot-times order.period k t) ∙ (turns t m).is)
+    ap (λ x. rationals.mul x (dot k t)) (integer-mul rationals (sign_number s) (pos n) ∙ ap (rationals.mul (integer rationals (sign_number s))) (integer-pos rationals n ∙ ap (whole rationals) order.is_product ∙ whole-mul rationals order.exponent order.multiple))
+        ∙ regroup (integer rationals (sign_number s)) (whole rationals order.exponent) (whole rationals order.multiple) (dot k t)
+        ∙ ap (λ x. rationals.mul (rationals.mul (integer rationals (sign_number s)) x) (whole rationals order.exponent)) (sym (dot-times order.multiple k t) ∙ (turns t m).is)
         ∙ ap₂ rationals.mul (sym (integer-mul rationals (sign_number s) (turns t m).number)) (sym (integer-pos rationals order.exponent))
         ∙ sym (integer-mul rationals (sign_number s *ℤ (turns t m).number) (pos order.exponent)),
   )
@@ -87,12 +99,15 @@ module _ (G : Operation → Type 0) (s : Sign) (k : WaveVector) (n : ℕ) (order
       regroup : (s e q d : Rational) → rationals.mul (rationals.mul s (rationals.mul e q)) d ≡ rationals.mul (rationals.mul s (rationals.mul q d)) e
       regroup s e q d = simp (ring_laws, rationals)
 
-  pub order-positive : 0 < n
-  order-positive = subst (λ x. 0 < x) (sym order.is_product) (Nat.mul-pos order.is_exponent.positive order.is_period.positive)
+  pub order_at-positive : 0 < n
+  order_at-positive = subst (λ x. 0 < x) (sym order.is_product) (Nat.mul-pos order.is_exponent.positive order.positive)
 
   pub phase_of_translation : (t : Vector) → IsTranslation G t → (x : ℕ) × IsPhase s n k t x
-  phase_of_translation t m = let w = phase-multiple t m in let r = remainder (w.0 *ℤ pos order.exponent) n order-positive in
+  phase_of_translation t m = let w = phase-multiple t m in let r = remainder (w.0 *ℤ pos order.exponent) n order_at-positive in
       (r.0, record { below = r.1; turns = int_div_euclid (w.0 *ℤ pos order.exponent) (pos n); congruent = w.1 ∙ ap (integer rationals) r.2 })
+
+pub order-positive : (G : Operation → Type 0) (s : Sign) (k : WaveVector) (n : ℕ) → IsOrder G k n → 0 < n
+order-positive G s k n order = order_at-positive G s k n (order_at G k n order)
 
 -- congruence of whole numbers modulo n
 abbrev pub AreCongruent : (n : ℕ) → ℤ → ℤ → Type 0

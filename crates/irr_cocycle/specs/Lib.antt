@@ -1,1 +1,2 @@
 pub mod SpaceGroupLaws
+pub mod SubgroupTable

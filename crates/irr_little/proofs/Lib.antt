@@ -3,5 +3,9 @@ pub mod Listing
 pub mod Spaces
 pub mod Wrapping
 pub mod Shifts
+pub mod SubgroupTables
 pub mod Tables
+pub mod LineOrders
+pub mod LineTables
+pub mod StepNumbers
 pub mod Stars

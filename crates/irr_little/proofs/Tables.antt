@@ -1,270 +1,55 @@
--- The table of a little group, from its lists.
---   product_translation        the translation of a product is in the group
---   quotient_whole             n k.t is whole for each translation t of the group, where n is the order of k
---   little_numbering           the operations with listed numbers are a numbering of the little group
---   closed_places              the listed numbers are few, and have those of products
---   listed_table               lists of products and exponents are those of a table of the little group
-use Rattle.std.proofs.Common.{◌≡◌, sym, ◌∙◌, ap, subst, subst₂, refl, ℕ, suc, zero, ◌<◌, ◌≤◌, pos, List, length, get_or, slice_index, Contains, arith}
-use Rattle.std.proofs.lemmas.List.{get_or_default}
-use Rattle.std.proofs.lemmas.List.Elements.{Contains-get_or}
-use Rattle.irr_algebra.specs.Fin.{Fin, to_nat}
-use Rattle.irr_algebra.specs.Ring.{whole}
-use Rattle.irr_algebra.specs.Matrix.{◌⊖◌}
-use Rattle.irr_algebra.proofs.Indices.{from_nat, to_nat-from_nat, to_nat-lt}
-use Rattle.irr_algebra.proofs.Whole.{whole-mul}
-use Rattle.irr_rational.specs.Integer.{integer}
-use Rattle.irr_rational.specs.Rational.{Rational, rationals, IsWhole}
-use Rattle.irr_rational.proofs.Integers.{integer-pos}
-use Rattle.irr_rational.proofs.WholeNumbers.{whole-mul as product_whole, whole-integer}
-use Rattle.irr_space.specs.Operation.{Operation, Vector, WaveVector, ◌⊙◌, identity, translation, dot, turned}
-use Rattle.irr_space.specs.SpaceGroup.{IsTranslation}
-use Rattle.irr_space.specs.Reciprocal.{AreEquivalent, IsOrder, IsPhase}
-use Rattle.irr_space.specs.CanonicalOperation.{IsNumbering, IsNumberedBefore}
+-- The table of a little group, from its lists: the laws of irr_little's SubgroupTables for the little group.
+--   listed_places              the numbers of the operations of the little group, as those of a subgroup
+--   little_list_table          lists of products and exponents are those of a table of the little group
+use Rattle.std.proofs.Common.{◌≡◌, sym, subst, ℕ, List, length}
+use Rattle.irr_space.specs.Operation.{WaveVector}
+use Rattle.irr_space.specs.Reciprocal.{IsOrder, IsPhase}
 use Rattle.irr_space.specs.Star.{IsInLittleGroup}
 use Rattle.irr_space.specs.PhaseTable.{PhaseTable, IsTableOf}
-use Rattle.irr_seitz.specs.OperationMeaning.{operation}
 use Rattle.irr_seitz.specs.PhaseMeaning.{sign_of}
 use Rattle.irr_seitz.specs.declared.op.Op.{Op}
-use Rattle.irr_cocycle.specs.SpaceGroupLaws.{IsGroup}
-use Rattle.irr_cocycle.proofs.Operations.{op-assoc, op-identity, rotation-translation-op, vector-translation-op, add-sub, dot-times}
-use Rattle.irr_cocycle.proofs.Reciprocals.{little_identity, little_product, little_rotation}
-use Rattle.irr_cocycle.proofs.Phases.{phase_unique}
-use Rattle.irr_cocycle.proofs.LittleGroups.{rotation_distinct, little_table, little_table-is_table, little_table-order}
-use Rattle.irr_rep.specs.Table.{AreEntries, IsListed, HasInverses, IsFactorSystem, entry, IsGroup as ProductGroup}
-use Rattle.irr_rep.proofs.Listed.{listed-group, listed-inverses, listed-factors, listed-same}
-use Rattle.irr_close.specs.Canonical.{numbered}
+use Rattle.irr_cocycle.proofs.Phases.{order_at}
+use Rattle.irr_cocycle.specs.SubgroupTable.{IsTableAt}
+use Rattle.irr_cocycle.proofs.LittleGroups.{little_subgroup}
+use Rattle.irr_rep.specs.Table.{AreEntries, IsListed}
 use Rattle.irr_close.specs.StandsFor.{stands_for}
 use Rattle.irr_close.specs.declared.group.Group.{Group}
-use Rattle.irr_close.proofs.Bareness.{first_of}
 use Rattle.irr_close.specs.SpaceGroup.{IsSpaceGroup}
-use Rattle.irr_little.specs.Places.{AreListed, IsLittlePlace, AreLittlePlaces}
-use Rattle.irr_little.specs.Products.{IsProduct}
-use Rattle.irr_little.specs.Entries.{AreClosed, IsProductEntry, IsPhaseEntry}
+use Rattle.irr_little.specs.Places.{AreListed, AreLittlePlaces}
+use Rattle.irr_little.specs.Entries.{IsProductEntry, IsPhaseEntry}
 use Rattle.irr_little.specs.Table.{listed_operations, IsLittleTable}
-use Rattle.irr_little.proofs.Spaces.{form_of, at_place, numbering_of, canonical_at, has_canonical}
+use Rattle.irr_little.proofs.Spaces.{canonical_at}
+use Rattle.irr_little.proofs.SubgroupTables.{IsPlaceOf, listed_numbering, table_of_lists}
 
--- g h = (1|t) f in a group: the translation is in it
-pub product_translation : (G : Operation → Type 0) → IsGroup G → (g h f : Operation) (t : Vector) → G g → G h → G f → g ⊙ h ≡ translation t ⊙ f
-    → IsTranslation G t
-product_translation G group g h f t p q r e = let i = group.has_inverse f r in
-    subst G (ap (λ x. x ⊙ i.0) e ∙ op-assoc (translation t) f i.0 ∙ ap (λ x. translation t ⊙ x) i.2.right ∙ op-identity (translation t))
-    (group.has_product (g ⊙ h) i.0 (group.has_product g h p q) i.1)
-
--- the order of k times k.t is whole
-pub turns_whole : (G : Operation → Type 0) (k : WaveVector) (n : ℕ) → IsOrder G k n → (t : Vector) → IsTranslation G t → IsWhole (rationals.mul
-    (integer rationals (pos n)) (dot k t))
-turns_whole G k n order t m = subst IsWhole (regroup (whole rationals order.exponent) (whole rationals order.period) (dot k t)
-    ∙ ap (λ x. rationals.mul x (dot k t)) (sym (whole-mul rationals order.exponent order.period) ∙ ap (whole rationals) (sym order.is_product) ∙ sym
-    (integer-pos rationals n)))
-    (product_whole (whole rationals order.exponent) (rationals.mul (whole rationals order.period) (dot k t))
-    (subst IsWhole (integer-pos rationals order.exponent) (whole-integer (pos order.exponent)))
-    (subst IsWhole (dot-times order.period k t) (order.is_period.reciprocal.is_whole t m)))
-  where
-    regroup : (e q d : Rational) → rationals.mul e (rationals.mul q d) ≡ rationals.mul (rationals.mul e q) d
-    regroup e q d = sym (rationals.mul_assoc e q d)
-
--- products with one translation and one operation are one
-one_rotation : (s t : Vector) (f h : Operation) → translation s ⊙ f ≡ translation t ⊙ h → f.rotation ≡ h.rotation
-one_rotation s t f h e = sym (rotation-translation-op s f) ∙ ap (λ (x : Operation). x.rotation) e ∙ rotation-translation-op t h
-
-one_translation : (s t : Vector) (f : Operation) → translation s ⊙ f ≡ translation t ⊙ f → s ≡ t
-one_translation s t f e = sym (add-sub s f.vector) ∙ ap (λ v. v ⊖ f.vector) (sym (vector-translation-op s f) ∙ ap (λ (x : Operation). x.vector) e
-    ∙ vector-translation-op t f) ∙ add-sub t f.vector
-
--- an increasing list of numbers below n is not longer than n
-increasing_above : (xs : List ℕ) → ((a b : ℕ) → a < b → b < length xs → slice_index xs a < slice_index xs b) → (a : ℕ) → a < length xs
-    → a ≤ slice_index xs a
-increasing_above xs rising zero l = omega arith
-increasing_above xs rising (suc a) l =
-    let h : a ≤ slice_index xs a = increasing_above xs rising a (omega arith) in
-    let r : slice_index xs a < slice_index xs (suc a) = rising a (suc a) (omega arith) l in
-    omega arith
-
-few_listed : (P : ℕ → Type 0) (n : ℕ) (xs : List ℕ) → AreListed P n xs → length xs ≤ n
-few_listed P n xs so = at (length xs) refl
-  where
-    at : (h : ℕ) → length xs ≡ h → length xs ≤ n
-    at zero e = omega arith
-    at (suc h) e =
-        let l : h < length xs = omega arith in
-        let a : h ≤ slice_index xs h = increasing_above xs so.increasing h l in
-        let b : slice_index xs h < n = so.below (slice_index xs h) (Contains-get_or xs h 0 l) in
-        omega arith
-
-module _ (group : Group) (space : IsSpaceGroup group) (k : WaveVector) (xs : List ℕ) (places : AreLittlePlaces group k xs) where
-  abbrev G : Operation → Type 0
-  G = stands_for group
-
-  member_at : (d : Op) (p : ℕ) → Contains xs p → IsInLittleGroup G k (operation (get_or group.ops.items p d))
-  member_at d p c = record { member = (canonical_at group d p (places.below p c)).member; keeps = places.holds p c d }
-
-  pub closed_places : AreClosed group xs
-  closed_places = record {
-    few = (let a : length xs ≤ length group.ops.items = few_listed (IsLittlePlace group k) (length group.ops.items) xs places in
-        let b : length group.ops.items ≤ 48 = (form_of group).few in omega arith);
-    below = places.below;
-    products = λ i j l t p q e. places.all l e.below (λ f.
-        (little_rotation G space.is_group k (operation (get_or group.ops.items i f) ⊙ operation (get_or group.ops.items j f)) (operation
-        (get_or group.ops.items l f))
-        (little_product G space.is_group k (operation (get_or group.ops.items i f)) (operation (get_or group.ops.items j f)) (member_at f i p)
-        (member_at f j q))
-        (canonical_at group f l e.below).member
-        (sym (rotation-translation-op t (operation (get_or group.ops.items l f))) ∙ ap (λ (x : Operation). x.rotation) (sym (e.is f)))).keeps);
-  }
-
-  module _ (h : ℕ) (count : h ≡ length xs) (d : Op) where
-    within : (i : Fin h) → to_nat i < length xs
-    within i = let l : to_nat i < h = to_nat-lt i in omega arith
-
-    -- the number at a position
-    number_in : (i : Fin h) → Contains xs (slice_index xs (to_nat i))
-    number_in i = Contains-get_or xs (to_nat i) 0 (within i)
-
-    inside : (i : Fin h) → slice_index xs (to_nat i) < length group.ops.items
-    inside i = places.below (slice_index xs (to_nat i)) (number_in i)
-
-    place : Fin h → Fin (length group.ops.items)
-    place i = from_nat (length group.ops.items) (slice_index xs (to_nat i)) (inside i)
-
-    place-number : (i : Fin h) → to_nat (place i) ≡ slice_index xs (to_nat i)
-    unfolding place
-    place-number i = to_nat-from_nat (length group.ops.items) (slice_index xs (to_nat i)) (inside i)
-
-    place-operation : (i : Fin h) → numbered group.ops.items d (place i) ≡ listed_operations group h xs d i
-    place-operation i = ap (λ n. operation (get_or group.ops.items n d)) (place-number i)
-
-    found : (g : Operation) → IsInLittleGroup G k g → (p : Fin (length group.ops.items)) × (numbered group.ops.items d p ≡ g)
-        → (i : Fin h) × (listed_operations group h xs d i ≡ g)
-    found g m t = at (places.all (to_nat t.0) (to_nat-lt t.0) (λ f.
-        subst (λ (x : Op). AreEquivalent G (turned k (operation x)) k) (get_or_default group.ops.items (to_nat t.0) d f (to_nat-lt t.0))
-        (subst (λ (x : Operation). AreEquivalent G (turned k x) k) (sym t.1) m.keeps)))
-      where
-        at : Contains xs (to_nat t.0) → (i : Fin h) × (listed_operations group h xs d i ≡ g)
-        at c =
-            let l : c.0 < h = (let b : c.0 < length xs = c.1 in omega arith) in (
-              from_nat h c.0 l,
-              ap (λ n. operation (get_or group.ops.items (slice_index xs n) d)) (to_nat-from_nat h c.0 l)
-                  ∙ ap (λ n. operation (get_or group.ops.items n d)) (get_or_default xs c.0 0 (to_nat t.0) c.1 ∙ c.2) ∙ t.1,
-            )
-
-    pub little_numbering : IsNumbering G (IsInLittleGroup G k) (listed_operations group h xs d)
-    little_numbering = record {
-      canonical = λ i. canonical_at group d (slice_index xs (to_nat i)) (inside i);
-      member = λ i. member_at d (slice_index xs (to_nat i)) (number_in i);
-      all = λ g c m. found g m ((numbering_of group d).all g c tt);
-      ordered = λ i j l. subst₂ (λ (f g : Operation). IsNumberedBefore f.rotation g.rotation) (place-operation i) (place-operation j)
-          ((numbering_of group d).ordered (place i) (place j) (subst₂ (λ a b. a < b) (sym (place-number i)) (sym (place-number j))
-          (places.increasing (to_nat i) (to_nat j) l (within j))));
-    }
-
-    -- the table that the theory gives, and its products and exponents
-    module _ (n : ℕ) (order : IsOrder G k n) where
-      abbrev theory : PhaseTable h
-      theory = little_table G space.is_group (has_canonical group) (sign_of group.phase) k (listed_operations group h xs d) little_numbering n order
-
-      theory_is : IsTableOf (sign_of group.phase) G k (listed_operations group h xs d) theory
-      theory_is = little_table-is_table G space.is_group (has_canonical group) (sign_of group.phase) k
-          (listed_operations group h xs d) little_numbering n order
-
-      theory_order : theory.order ≡ n
-      theory_order = little_table-order G space.is_group (has_canonical group) (sign_of group.phase) k
-          (listed_operations group h xs d) little_numbering n order
-
-      same_place : (i j : Fin h) (x : ℕ) (t : Vector) → x < h → IsProduct group (slice_index xs (to_nat i)) (slice_index xs (to_nat j))
-          (slice_index xs x) t
-          → to_nat (theory.product i j) ≡ x
-      same_place i j x t l p = ap to_nat (rotation_distinct G (IsInLittleGroup G k) (listed_operations group h xs d) little_numbering
-          (theory.product i j) (from_nat h x l)
-          (one_rotation (theory_is.quotient i j) t (listed_operations group h xs d (theory.product i j)) (operation (get_or group.ops.items
-          (slice_index xs x) d))
-          (sym (theory_is.products i j) ∙ p.is d)
-          ∙ ap (λ m. (operation (get_or group.ops.items (slice_index xs m) d)).rotation) (sym (to_nat-from_nat h x l)))) ∙ to_nat-from_nat h x l
-
-      same_phase : (i j : Fin h) (l : ℕ) (t : Vector) (x : ℕ) → IsProduct group (slice_index xs (to_nat i)) (slice_index xs (to_nat j)) l t
-          → IsPhase (sign_of group.phase) n k t x → theory.exponent i j ≡ x
-      same_phase i j l t x p phase = phase_unique (sign_of group.phase) n k t (theory.exponent i j) x
-          (subst (λ v. IsPhase (sign_of group.phase) n k v (theory.exponent i j)) same_shift
-          (subst (λ m. IsPhase (sign_of group.phase) m k (theory_is.quotient i j) (theory.exponent i j)) theory_order (theory_is.phases i j))) phase
-        where
-          f : Operation
-          f = operation (get_or group.ops.items l d)
-
-          both : translation (theory_is.quotient i j) ⊙ listed_operations group h xs d (theory.product i j) ≡ translation t ⊙ operation
-              (get_or group.ops.items l d)
-          both = sym (theory_is.products i j) ∙ p.is d
-
-          same_operation : listed_operations group h xs d (theory.product i j) ≡ operation (get_or group.ops.items l d)
-          same_operation = sym (place-operation (theory.product i j))
-              ∙ ap (numbered group.ops.items d) (rotation_distinct G (λ _. Unit {0}) (numbered group.ops.items d) (numbering_of group d) (place
-              (theory.product i j))
-              (from_nat (length group.ops.items) l p.below)
-              (ap (λ (x : Operation). x.rotation) (place-operation (theory.product i j))
-              ∙ one_rotation (theory_is.quotient i j) t (listed_operations group h xs d (theory.product i j)) (operation
-              (get_or group.ops.items l d)) both
-              ∙ ap (λ (x : Operation). x.rotation) (sym (at_place group d l p.below))))
-              ∙ at_place group d l p.below
-
-          same_shift : theory_is.quotient i j ≡ t
-          same_shift = one_translation (theory_is.quotient i j) t (operation (get_or group.ops.items l d))
-              (ap (λ x. translation (theory_is.quotient i j) ⊙ x) (sym same_operation) ∙ both)
-
-      pub listed_theory : (products exponents : List ℕ) → AreEntries (length xs) (IsProductEntry group xs) products
-          → AreEntries (length xs) (IsPhaseEntry group k n xs) exponents → IsListed theory n products exponents
-      listed_theory products exponents ps es = record {
-        same_order = theory_order;
-        product-entry = λ i j. let e = ps (to_nat i) (to_nat j) (within i) (within j) in
-            same_place i j (entry (length xs) products (to_nat i) (to_nat j)) e.1.0 (let l : entry (length xs) products (to_nat i)
-            (to_nat j) < length xs = e.0 in omega arith) e.1.1
-            ∙ ap (λ m. entry m products (to_nat i) (to_nat j)) (sym count);
-        exponent-entry = λ i j. let e = es (to_nat i) (to_nat j) (within i) (within j) in
-            same_phase i j e.0 e.1 (entry (length xs) exponents (to_nat i) (to_nat j)) e.2 e.3
-            ∙ ap (λ m. entry m exponents (to_nat i) (to_nat j)) (sym count);
-      }
+pub listed_places : (group : Group) (k : WaveVector) (xs : List ℕ) → AreLittlePlaces group k xs
+    → AreListed (IsPlaceOf group (IsInLittleGroup (stands_for group) k)) (length group.ops.items) xs
+listed_places group k xs places = record {
+  increasing = places.increasing;
+  below = places.below;
+  holds = λ p c d. record { member = (canonical_at group d p (places.below p c)).member; keeps = places.holds p c d };
+  all = λ p l h. places.all p l (λ d. (h d).keeps);
+}
 
 -- a table with such lists is that of the little group
-pub table_of_lists : (group : Group) → IsSpaceGroup group → (k : WaveVector) (xs : List ℕ) → AreLittlePlaces group k xs → (h : ℕ) → h ≡ length xs →
+pub little_list_table : (group : Group) → IsSpaceGroup group → (k : WaveVector) (xs : List ℕ) → AreLittlePlaces group k xs → (h : ℕ) → h ≡ length xs →
     (n : ℕ) → IsOrder (stands_for group) k n
     → (products exponents : List ℕ) → AreEntries (length xs) (IsProductEntry group xs) products → AreEntries (length xs)
     (IsPhaseEntry group k n xs) exponents
     → (U : PhaseTable h) → IsListed U n products exponents → IsLittleTable group k xs U
-table_of_lists group space k xs places h count n order products exponents ps es U listed = record {
+little_list_table group space k xs places h count n order products exponents ps es U listed = record {
   count = count;
   places = places;
-  numbering = λ d. little_numbering group space k xs places h count d;
-  table = λ d. listed-same (theory group space k xs places h count d n order) n products exponents
-      (listed_theory group space k xs places h count d n order products exponents ps es) U listed
-      (sign_of group.phase) (stands_for group) k (listed_operations group h xs d) (theory_is group space k xs places h count d n order);
+  numbering = λ d. listed_numbering group space k (IsInLittleGroup (stands_for group) k) (little_subgroup (stands_for group) space.is_group k) xs (listed_places group k xs places) h count d;
+  table = λ d. of_table d (table_of_lists group space k (IsInLittleGroup (stands_for group) k) (little_subgroup (stands_for group) space.is_group k) xs (listed_places group k xs places) h count n
+      (order_at (stands_for group) k n order) products exponents ps es U listed d);
 }
-
-module _ (group : Group) (space : IsSpaceGroup group) (k : WaveVector) (xs : List ℕ) (places : AreLittlePlaces group k xs) (h : ℕ)
-    (count : h ≡ length xs) (n : ℕ) (order : IsOrder (stands_for group) k n)
-    (products exponents : List ℕ) (ps : AreEntries (length xs) (IsProductEntry group xs) products) (es : AreEntries (length xs)
-    (IsPhaseEntry group k n xs) exponents) where
-  d : Op
-  d = first_of group.ops.items (form_of group).nonempty
-
-  pub lists_group : ProductGroup h (entry h products)
-  lists_group = listed-group (theory group space k xs places h count d n order) n products exponents
-      (listed_theory group space k xs places h count d n order products exponents ps es)
-
-  pub lists_inverses : HasInverses h (entry h products)
-  lists_inverses = listed-inverses (theory group space k xs places h count d n order) n products exponents
-      (listed_theory group space k xs places h count d n order products exponents ps es)
-
-  pub lists_factors : IsFactorSystem n h (entry h products) (entry h exponents)
-  lists_factors = listed-factors (theory group space k xs places h count d n order) n products exponents
-      (listed_theory group space k xs places h count d n order products exponents ps es)
-
--- a little group has the identity
-pub some_place : (group : Group) → IsSpaceGroup group → (k : WaveVector) (xs : List ℕ) → AreLittlePlaces group k xs → 0 < length xs
-some_place group space k xs places = at (first_place (little_numbering group space k xs places (length xs) refl (first_of group.ops.items
-    (form_of group).nonempty)))
   where
-    first_place : IsNumbering (stands_for group) (IsInLittleGroup (stands_for group) k) (listed_operations group (length xs) xs
-        (first_of group.ops.items (form_of group).nonempty)) → Fin (length xs)
-    first_place numbering = let c = has_canonical group identity space.is_group.has_identity in
-        (numbering.all c.0 c.1 (little_rotation (stands_for group) space.is_group k identity c.0 (little_identity
-        (stands_for group) space.is_group k) c.1.member c.2)).0
-
-    at : Fin (length xs) → 0 < length xs
-    at i = let l : to_nat i < length xs = to_nat-lt i in omega arith
+    of_table : (d : Op) → IsTableAt (sign_of group.phase) (stands_for group) k n (listed_operations group h xs d) U
+        → IsTableOf (sign_of group.phase) (stands_for group) k (listed_operations group h xs d) U
+    of_table d t = record {
+      is_order = subst (IsOrder (stands_for group) k) (sym t.same_order) order;
+      quotient = t.quotient;
+      is_translation = t.is_translation;
+      products = t.products;
+      phases = λ i j. subst (λ m. IsPhase (sign_of group.phase) m k (t.quotient i j) (U.exponent i j)) (sym t.same_order) (t.phases i j);
+    }

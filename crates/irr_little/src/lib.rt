@@ -5,14 +5,18 @@ ghost use Rattle.std.specs.Prelude.{◌≡◌};
 ghost use Rattle.irr_little.specs.declared.LittleError.TheVariants.{Memory};
 
 mod arms;
+mod line;
 mod phase;
 mod places;
 mod product;
+mod steps;
 mod table;
 
 pub use arms::{Arm, Arms, star};
+pub use line::line_group;
 pub use phase::theta;
 pub use places::little_places;
+pub use steps::step_phase;
 pub use table::little;
 use thiserror::Error;
 

@@ -39,7 +39,7 @@ fn turns(n: u32, w: &Wave, v: &Vec3) -> i128
     requires limits { IsWithinLimits w.now }
     requires numerators { AreWithin (10 ^ 12) v.now.num }
     ensures value { rationals.mul (integer rationals (pos n)) (dot (wave_vector w.now) (vector v.now)) ≡ integer rationals result }
-    ensures small { unsigned_abs result ≤ 2 ^ 110 }
+    ensures small { unsigned_abs result ≤ 2 ^ 120 }
 {
     quotient(
         multiple(n, product(&w.num, &v.num)),
@@ -47,11 +47,11 @@ fn turns(n: u32, w: &Wave, v: &Vec3) -> i128
     )
 }
 
-// The sign of the phase times a number.
-fn signed(phase: Phase, number: i128) -> i128
-    requires { unsigned_abs number ≤ 2 ^ 110 }
+/// The sign of the phase times a number.
+pub(crate) fn signed(phase: Phase, number: i128) -> i128
+    requires { unsigned_abs number ≤ 2 ^ 120 }
     ensures value { result ≡ sign_number (sign_of phase) *ℤ number }
-    ensures small { unsigned_abs result ≤ 2 ^ 110 }
+    ensures small { unsigned_abs result ≤ 2 ^ 120 }
 {
     match phase {
         Phase::Minus => -number,
@@ -59,7 +59,8 @@ fn signed(phase: Phase, number: i128) -> i128
     }
 }
 
-fn remainder(number: i128, n: u32) -> u32
+/// The remainder of a number by n, from 0 to n - 1.
+pub(crate) fn remainder(number: i128, n: u32) -> u32
     requires { 0 < n }
     ensures { pos result ≡ int_rem_euclid number (pos n) }
 {
@@ -69,20 +70,20 @@ fn remainder(number: i128, n: u32) -> u32
     number.rem_euclid(i128::from(n)) as u32
 }
 
-// An exact quotient.
-fn quotient(number: i128, den: u64) -> i128
+/// An exact quotient.
+pub(crate) fn quotient(number: i128, den: u64) -> i128
     requires positive { 0 < den }
     requires whole { IsWhole (ratio number den) }
-    requires small { unsigned_abs number ≤ 2 ^ 110 }
+    requires small { unsigned_abs number ≤ 2 ^ 120 }
     ensures value { integer rationals result ≡ ratio number den }
-    ensures small { unsigned_abs result ≤ 2 ^ 110 }
+    ensures small { unsigned_abs result ≤ 2 ^ 120 }
 {
     divided(number, den)
 }
 
 fn divided(number: i128, den: u64) -> i128
     requires positive { 0 < den }
-    requires small { unsigned_abs number ≤ 2 ^ 110 }
+    requires small { unsigned_abs number ≤ 2 ^ 120 }
     ensures { result ≡ int_div_euclid number (pos den) }
 {
     if number == 0 {
@@ -93,21 +94,21 @@ fn divided(number: i128, den: u64) -> i128
 
 fn multiple(n: u32, number: i128) -> i128
     requires within { n ≤ ORDER_LIMIT }
-    requires small { unsigned_abs number ≤ 2 ^ 90 }
+    requires small { unsigned_abs number ≤ 2 ^ 105 }
     ensures value { result ≡ pos n *ℤ number }
-    ensures small { unsigned_abs result ≤ 2 ^ 110 }
+    ensures small { unsigned_abs result ≤ 2 ^ 120 }
 {
     i128::from(n) * number
 }
 
-// The sum of the products by place.
-fn product(row: &[i64; 3], column: &[i64; 3]) -> i128
-    requires row { (i : Fin 3) → unsigned_abs (entry row.now i) ≤ 10 ^ 14 }
+/// The sum of the products by place.
+pub(crate) fn product(row: &[i64; 3], column: &[i64; 3]) -> i128
+    requires row { (i : Fin 3) → unsigned_abs (entry row.now i) ≤ 2 ^ 62 }
     requires column { AreWithin (10 ^ 12) column.now }
     ensures value { result ≡ ((slice_index_or row.now 0 (pos 0) *ℤ slice_index_or column.now 0 (pos 0))
         +ℤ (slice_index_or row.now 1 (pos 0) *ℤ slice_index_or column.now 1 (pos 0)))
         +ℤ (slice_index_or row.now 2 (pos 0) *ℤ slice_index_or column.now 2 (pos 0)) }
-    ensures small { unsigned_abs result ≤ 2 ^ 90 }
+    ensures small { unsigned_abs result ≤ 2 ^ 105 }
 {
     sum(
         term(row[0], column[0]),
@@ -117,20 +118,20 @@ fn product(row: &[i64; 3], column: &[i64; 3]) -> i128
 }
 
 fn term(a: i64, b: i64) -> i128
-    requires first { unsigned_abs a ≤ 10 ^ 14 }
+    requires first { unsigned_abs a ≤ 2 ^ 62 }
     requires second { unsigned_abs b ≤ 10 ^ 12 }
     ensures value { result ≡ a *ℤ b }
-    ensures small { unsigned_abs result ≤ 2 ^ 87 }
+    ensures small { unsigned_abs result ≤ 2 ^ 103 }
 {
     i128::from(a) * i128::from(b)
 }
 
 fn sum(x: i128, y: i128, z: i128) -> i128
-    requires x { unsigned_abs x ≤ 2 ^ 87 }
-    requires y { unsigned_abs y ≤ 2 ^ 87 }
-    requires z { unsigned_abs z ≤ 2 ^ 87 }
+    requires x { unsigned_abs x ≤ 2 ^ 103 }
+    requires y { unsigned_abs y ≤ 2 ^ 103 }
+    requires z { unsigned_abs z ≤ 2 ^ 103 }
     ensures value { result ≡ (x +ℤ y) +ℤ z }
-    ensures small { unsigned_abs result ≤ 2 ^ 90 }
+    ensures small { unsigned_abs result ≤ 2 ^ 105 }
 {
     x + y + z
 }

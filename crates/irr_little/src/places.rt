@@ -33,8 +33,8 @@ pub fn little_places(alloc: Global, group: &Group, k: &Wave) -> Result<Vec<u32>,
     Ok(places)
 }
 
-// Whether the rotation of an operation takes a wave vector to an equivalent one.
-fn keeps(group: &Group, place: usize, k: &Wave) -> bool
+/// Whether the rotation of an operation takes a wave vector to an equivalent one.
+pub(crate) fn keeps(group: &Group, place: usize, k: &Wave) -> bool
     requires limits { IsWithinLimits k.now }
     requires place { place < length group.now.ops.items }
     ensures { IsTrue result ↔ IsLittlePlace group.now (wave_vector k.now) place }

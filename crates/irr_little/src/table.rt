@@ -1,6 +1,7 @@
 // The table of a little group.
 ghost use Rattle.std.specs.Prelude.{ℕ, ◌≡◌, ◌<◌, ◌≤◌, ◌*◌, IfOk, IfErr, length, slice_index, Contains};
 ghost use Rattle.irr_space.specs.Reciprocal.{IsOrder};
+ghost use Rattle.irr_cocycle.specs.SubgroupTable.{IsOrderAt};
 ghost use Rattle.irr_cyc.specs.declared.orders.TheConstants.{ORDER_LIMIT};
 ghost use Rattle.irr_rep.specs.declared.table.TheConstants.{PLACES_LIMIT};
 ghost use Rattle.irr_rep.specs.Table.{AreEntries};
@@ -69,8 +70,9 @@ fn table(
     Ok(t)
 }
 
-// The products, as positions among the places, and the exponents of their phases, row by row.
-fn entries(
+/// The products, as positions among the places, and the exponents of their phases over a multiple of the order of the wave
+/// vector, row by row.
+pub(crate) fn entries(
     alloc: Global,
     group: &Group,
     k: &Wave,
@@ -78,7 +80,7 @@ fn entries(
     places: &[u32],
 ) -> Result<(Vec<u32>, Vec<u32>), Memory>
     requires limits { IsWithinLimits k.now }
-    requires order { IsOrder (stands_for group.now) (wave_vector k.now) order }
+    requires order { IsOrderAt (stands_for group.now) (wave_vector k.now) order }
     requires within { order ≤ ORDER_LIMIT }
     requires closed { AreClosed group.now places.now }
     ensures products { IfOk result (λ v. AreEntries (length places.now) (IsProductEntry group.now places.now) v.0.items) }

@@ -21,6 +21,7 @@ use Rattle.irr_seitz.specs.declared.op.Op.{Op}
 use Rattle.irr_rep.specs.Twisted.{operation_places, phase_table, place_count}
 use Rattle.irr_rep.specs.declared.table.Twisted.{Twisted}
 use Rattle.irr_cocycle.proofs.Operations.{rotation-translation-op}
+use Rattle.irr_cocycle.proofs.Phases.{order_at}
 use Rattle.irr_cocycle.proofs.Reciprocals.{little_rotation}
 use Rattle.irr_close.specs.StandsFor.{stands_for}
 use Rattle.irr_close.specs.declared.group.Group.{Group}
@@ -29,7 +30,7 @@ use Rattle.irr_close.proofs.SpaceGroups.{space_group}
 use Rattle.irr_little.specs.Products.{IsProduct}
 use Rattle.irr_little.specs.Table.{IsLittleTable}
 use Rattle.irr_little.proofs.Spaces.{canonical_at, form_of}
-use Rattle.irr_little.proofs.Tables.{product_translation, turns_whole}
+use Rattle.irr_little.proofs.SubgroupTables.{product_translation, turns_whole}
 use Rattle.irr_reality.specs.Reality.{IsReversing}
 use Rattle.irr_reality.proofs.Opposites.{reversing_twice}
 use Rattle.irr_real.specs.Places.{IsReversingPlace}
@@ -76,7 +77,7 @@ module _ (group : Group) (k : WaveVector) (t : Twisted) (table : IsLittleTable g
       ∙ sym (whole-mul rationals N c.0) ∙ ap (whole rationals) (sym c.1) ∙ sym (integer-pos rationals n)))
       (product_whole (whole rationals c.0) (rationals.mul (integer rationals (pos N)) (dot k v))
       (subst IsWhole (integer-pos rationals c.0) (whole-integer (pos c.0)))
-      (turns_whole G k N (table.table some_op).is_order v square_translation))
+      (turns_whole G k N (order_at G k N (table.table some_op).is_order) v square_translation))
 
   pub square_is : (n i x : ℕ) → i < place_count t → slice_index (operation_places t) i ≡ q
       → IsPhase (sign_of group.phase) n k v x

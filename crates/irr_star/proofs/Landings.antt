@@ -19,7 +19,7 @@ use Rattle.irr_space.specs.Star.{IsInLittleGroup}
 use Rattle.irr_cocycle.specs.SpaceGroupLaws.{IsGroup, HasCanonical}
 use Rattle.irr_cocycle.proofs.Operations.{wide, op-assoc, dot-turned, rotation-translation-op, translation_between}
 use Rattle.irr_cocycle.proofs.Reciprocals.{equivalent_sym, little_rotation}
-use Rattle.irr_little.proofs.Tables.{product_translation}
+use Rattle.irr_little.proofs.SubgroupTables.{product_translation}
 use Rattle.irr_full.specs.Star.{Star, carrier}
 use Rattle.irr_full.proofs.StarLaws.{back, back_member, back_inverse, carrier_member, image-back, move, undone}
 use Rattle.irr_full.proofs.LittleMatrices.{little_place, passes_back, phase_exists, split_translation}

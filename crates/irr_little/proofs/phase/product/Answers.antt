@@ -8,24 +8,24 @@ small : (x : ℤ) (m : ℕ) → FitsSigned w64 x → unsigned_abs x ≤ m → un
 small x m f h = subst (λ a. unsigned_abs a ≤ m) (sym (to_z-of_z w64 x f)) h
 
 pub term-requires-clause-first : goal.term-requires-clause-first
-term-requires-clause-first c = small (get_or c.args.row.now 0 (pos 0)) (10 ^ 14) (search rules) (at_first
-    (λ x. unsigned_abs x ≤ 10 ^ 14) c.args.row.now c.requires.row)
+term-requires-clause-first c = small (get_or c.args.row.now 0 (pos 0)) (2 ^ 62) (search rules) (at_first
+    (λ x. unsigned_abs x ≤ 2 ^ 62) c.args.row.now c.requires.row)
 
 pub term-requires-clause-second : goal.term-requires-clause-second
 term-requires-clause-second c = small (get_or c.args.column.now 0 (pos 0)) (10 ^ 12) (search rules) (at_first
     (λ x. unsigned_abs x ≤ 10 ^ 12) c.args.column.now c.requires.column)
 
 pub term-requires-2-clause-first : goal.term-requires-2-clause-first
-term-requires-2-clause-first c = small (get_or c.args.row.now 1 (pos 0)) (10 ^ 14) (search rules) (at_second
-    (λ x. unsigned_abs x ≤ 10 ^ 14) c.args.row.now c.requires.row)
+term-requires-2-clause-first c = small (get_or c.args.row.now 1 (pos 0)) (2 ^ 62) (search rules) (at_second
+    (λ x. unsigned_abs x ≤ 2 ^ 62) c.args.row.now c.requires.row)
 
 pub term-requires-2-clause-second : goal.term-requires-2-clause-second
 term-requires-2-clause-second c = small (get_or c.args.column.now 1 (pos 0)) (10 ^ 12) (search rules) (at_second
     (λ x. unsigned_abs x ≤ 10 ^ 12) c.args.column.now c.requires.column)
 
 pub term-requires-3-clause-first : goal.term-requires-3-clause-first
-term-requires-3-clause-first c = small (get_or c.args.row.now 2 (pos 0)) (10 ^ 14) (search rules) (at_third
-    (λ x. unsigned_abs x ≤ 10 ^ 14) c.args.row.now c.requires.row)
+term-requires-3-clause-first c = small (get_or c.args.row.now 2 (pos 0)) (2 ^ 62) (search rules) (at_third
+    (λ x. unsigned_abs x ≤ 2 ^ 62) c.args.row.now c.requires.row)
 
 pub term-requires-3-clause-second : goal.term-requires-3-clause-second
 term-requires-3-clause-second c = small (get_or c.args.column.now 2 (pos 0)) (10 ^ 12) (search rules) (at_third

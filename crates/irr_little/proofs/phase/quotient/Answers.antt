@@ -12,7 +12,7 @@ returns-clause-value c = ap (integer rationals) (to_z-of_z w128 c.divided.result
     ∙ exact_quotient c.args.number c.args.den c.requires.positive c.requires.whole
 
 pub returns-clause-small : goal.returns-clause-small
-returns-clause-small c = quotient_small c.args.number (to_z w128 (of_z w128 c.divided.result)) c.args.den (2 ^ 110) c.requires.positive
+returns-clause-small c = quotient_small c.args.number (to_z w128 (of_z w128 c.divided.result)) c.args.den (2 ^ 120) c.requires.positive
     (ap (integer rationals) (to_z-of_z w128 c.divided.result (record { sfits = c.divided.type_inv }) ∙ c.divided.ensures
     ∙ ap (λ (z : ℤ). int_div_euclid z (pos c.args.den)) (to_z-of_z w128 c.args.number c.ranges.number))
     ∙ exact_quotient c.args.number c.args.den c.requires.positive c.requires.whole) c.requires.small

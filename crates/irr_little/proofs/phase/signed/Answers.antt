@@ -5,12 +5,12 @@ use Rattle.irr_seitz.proofs.Sizes.{abs-sub}
 use Rattle.irr_little.proofs.Phases.{signed_minus, signed_plus}
 use Rattle.irr_little.proofs.phase.signed.Goals as goal
 
-minus_fits : (x : ℤ) → unsigned_abs x ≤ 2 ^ 110 → FitsSigned w128 (pos 0 -ℤ x)
-minus_fits x h = let s : unsigned_abs (pos 0 -ℤ x) ≤ 0 + 2 ^ 110 = abs-sub (pos 0) x 0 (2 ^ 110) (omega arith) h in fits_signed_from_abs w128
+minus_fits : (x : ℤ) → unsigned_abs x ≤ 2 ^ 120 → FitsSigned w128 (pos 0 -ℤ x)
+minus_fits x h = let s : unsigned_abs (pos 0 -ℤ x) ≤ 0 + 2 ^ 120 = abs-sub (pos 0) x 0 (2 ^ 120) (omega arith) h in fits_signed_from_abs w128
     (pos 0 -ℤ x) (omega arith)
 
-negative : (x y : ℤ) → x ≡ y → unsigned_abs y ≤ 2 ^ 110 → to_z w128 (of_z w128 (pos 0 -ℤ x)) ≡ neg_ℤ y
-negative x y e h = to_z-of_z w128 (pos 0 -ℤ x) (minus_fits x (subst (λ z. unsigned_abs z ≤ 2 ^ 110) (sym e) h)) ∙ minus x ∙ ap neg_ℤ e
+negative : (x y : ℤ) → x ≡ y → unsigned_abs y ≤ 2 ^ 120 → to_z w128 (of_z w128 (pos 0 -ℤ x)) ≡ neg_ℤ y
+negative x y e h = to_z-of_z w128 (pos 0 -ℤ x) (minus_fits x (subst (λ z. unsigned_abs z ≤ 2 ^ 120) (sym e) h)) ∙ minus x ∙ ap neg_ℤ e
   where
     minus : (z : ℤ) → pos 0 -ℤ z ≡ neg_ℤ z
     minus z = omega (arith, ints)

@@ -5,14 +5,14 @@ use Rattle.irr_seitz.specs.OperationMeaning.{operation}
 use Rattle.irr_seitz.specs.PhaseMeaning.{sign_of}
 use Rattle.irr_rat.specs.VectorMeaning.{vector}
 use Rattle.irr_kvec.specs.WaveMeaning.{wave_vector}
-use Rattle.irr_cocycle.proofs.Phases.{order-positive}
+use Rattle.irr_cocycle.proofs.Phases.{order_at-positive}
 use Rattle.irr_rep.proofs.Rows.{FilledRows, filled-push, filled-entries}
 use Rattle.irr_close.specs.StandsFor.{stands_for}
 use Rattle.irr_close.proofs.Bareness.{first_of}
 use Rattle.irr_little.specs.Products.{IsProduct}
 use Rattle.irr_little.specs.Entries.{IsProductEntry, IsPhaseEntry}
 use Rattle.irr_little.proofs.Spaces.{form_of, canonical_at}
-use Rattle.irr_little.proofs.Tables.{product_translation, turns_whole}
+use Rattle.irr_little.proofs.SubgroupTables.{product_translation, turns_whole}
 use Rattle.irr_close.proofs.SpaceGroups.{space_group}
 use Rattle.irr_little.proofs.table.entries.Goals as goal
 
@@ -35,7 +35,7 @@ position-requires-clause-inside c = c.requires.closed.products (slice_index c.ar
     (Contains-get_or c.args.places.now c.loop-j.j-index 0 c.loop-j-test.true) c.product-both.ensures.product
 
 pub theta-requires-clause-positive : goal.theta-requires-clause-positive
-theta-requires-clause-positive c = order-positive (stands_for c.args.group.now) (sign_of c.args.group.now.phase)
+theta-requires-clause-positive c = order_at-positive (stands_for c.args.group.now) (sign_of c.args.group.now.phase)
     (wave_vector c.args.k.now) c.args.order c.requires.order
 
 pub theta-requires-clause-whole : goal.theta-requires-clause-whole

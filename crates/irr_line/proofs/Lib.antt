@@ -1,0 +1,9 @@
+pub mod LineGroups
+pub mod Tables
+pub mod LinePhases
+pub mod Orders
+pub mod MorePoints
+pub mod Readings
+pub mod ReadingLaws
+pub mod Between
+pub mod OneLine
