@@ -3,3 +3,15 @@ pub mod StarListings
 pub mod AllListings
 pub mod LiftedRows
 pub mod StarFacts
+pub mod WaveLists
+pub mod WaveOrder
+pub mod OrderedLists
+pub mod StarOrders
+pub mod StarsSoFar
+pub mod LeastArms
+pub mod SeenKeys
+pub mod SearchedStars
+pub mod SamePlaces
+pub mod CharactersAt
+pub mod Chosen
+pub mod ClassParts

@@ -1,6 +1,7 @@
 // The characters of the small representations on a star.
-ghost use Rattle.std.specs.Prelude.{ℕ, ◌≡◌, ◌≤◌, List, IfOk, length, slice_index_or};
+ghost use Rattle.std.specs.Prelude.{ℕ, ◌≡◌, ◌≤◌, List, IfOk, length, map, slice_index_or};
 ghost use Rattle.std.specs.Int.{◌∣◌};
+ghost use Rattle.std.specs.List.{All};
 ghost use Rattle.irr_algebra.specs.Fin.{Fin, to_nat};
 ghost use Rattle.irr_theory.specs.Representations.{Representations};
 ghost use Rattle.irr_space.specs.PhaseTable.{PhaseTable, phases_at};
@@ -16,7 +17,9 @@ ghost use Rattle.irr_climb.specs.Lists.{IsSmallList};
 ghost use Rattle.irr_chain.specs.NormalSubgroup.{HasSteps};
 ghost use Rattle.irr_little.specs.declared.arms.Arm.{Arm};
 ghost use Rattle.irr_mult.specs.declared.star.SmallCharacter.{SmallCharacter};
+ghost use Rattle.irr_mult.specs.declared.star.StarCharacters.{StarCharacters};
 ghost use Rattle.irr_mult.specs.StarParts.{IsCharacterOf};
+ghost use Rattle.irr_mult.specs.StarSearch.{HasOrder};
 ghost use Rattle.irr_mult.specs.Traced.{AreStarCharacters};
 
 use crate::lifting::small_character;
@@ -30,8 +33,8 @@ use irr_memory::Memory;
 use irr_rep::{Family, Twisted};
 use std::alloc::Global;
 
-// The table of the little group of a wave vector whose order is within the limit. The error is want of memory.
-fn little_table(alloc: Global, group: &Group, wave: &Wave) -> Result<Twisted, Memory>
+/// The table of the little group of a wave vector whose order is within the limit. The error is want of memory.
+pub fn little_table(alloc: Global, group: &Group, wave: &Wave) -> Result<Twisted, Memory>
     requires limits { IsWithinLimits wave.now }
     requires order { (n : ℕ) × IsOrder (stands_for group.now) (wave_vector wave.now) n × (n ≤ 12000) }
     ensures { IfOk result (λ t. IsLittleTable group.now (wave_vector wave.now) (operation_places t) (phase_table t)) }
@@ -64,8 +67,8 @@ fn few_arms(group: &Group, arms: &[Arm], wave: &Wave) -> u32
     arms.len() as u32
 }
 
-// A complete list of the small representations of a table with steps. The error is want of memory.
-fn complete_list<S: Lift>(alloc: Global, t: &Twisted) -> Result<Vec<Family<S>>, Memory>
+/// A complete list of the small representations of a table with steps, in canonical order. The error is want of memory.
+pub fn complete_list<S: Lift>(alloc: Global, t: &Twisted) -> Result<Vec<Family<S>>, Memory>
     requires steps { HasSteps (phase_table t.now) }
     requires within { (phase_table t.now).order ≤ 12000 }
     ensures { IfOk result (λ fs. IsSmallList (phase_table t.now) fs.items) }
@@ -77,8 +80,8 @@ fn complete_list<S: Lift>(alloc: Global, t: &Twisted) -> Result<Vec<Family<S>>, 
     }
 }
 
-// The characters of a complete list, over the numbers of a multiple of its order. The error is want of memory.
-fn small_characters<S: Lift>(
+/// The characters of a complete list, over the numbers of a multiple of its order. The error is want of memory.
+pub fn small_characters<S: Lift>(
     alloc: Global,
     order: &Order,
     families: &[Family<S>],
@@ -121,4 +124,26 @@ pub fn star_characters<S: Lift>(
         arms,
         characters,
     })
+}
+
+/// The characters of the small representations at each of some wave vectors, over the numbers of an order that the
+/// orders of the wave vectors divide. The error is want of memory.
+pub fn characters_at<S: Lift>(
+    alloc: Global,
+    group: &Group,
+    waves: &[Wave],
+    order: &Order,
+) -> Result<Vec<StarCharacters<S>>, Memory>
+    requires limits { All IsWithinLimits waves.now }
+    requires orders { All (HasOrder group.now order.now.n) waves.now }
+    ensures waves { IfOk result (λ stars. map (λ (c : StarCharacters S). c.wave) stars.items ≡ waves.now) }
+    ensures characters { IfOk result (λ stars.
+        All (AreStarCharacters S.order_of S.value group.now order.now.n) stars.items) }
+{
+    let mut stars = Vec::new(alloc);
+    for wave in waves {
+        let star = star_characters::<S>(alloc, group, wave, order)?;
+        stars.push(star)?;
+    }
+    Ok(stars)
 }

@@ -2,20 +2,28 @@
 #![tactic(auto)]
 
 mod characters;
+mod comparison;
 mod dimension;
+mod equivalents;
 mod error;
 mod lifting;
 mod listing;
+mod ordered;
 mod part;
 mod star;
+mod stars;
 
-pub use characters::star_characters;
+pub use characters::{
+    characters_at, complete_list, little_table, small_characters, star_characters,
+};
 pub use dimension::multiplicity;
+pub use equivalents::places_of;
 pub use error::WorkError;
 pub use irr_memory::Memory;
 pub use listing::{all_parts, push_parts};
 pub use part::{PairParts, Part, RepParts};
 pub use star::{SmallCharacter, StarCharacters};
+pub use stars::representatives;
 
 #[cfg(test)]
 mod tests;

@@ -1,4 +1,4 @@
-//! The parts of small characters of P-1 at 0,0,0 and at 1/4,0,0.
+//! The parts of small characters of P-1 at 0,0,0 and at 1/4,0,0, and the stars of wave vectors there.
 ghost use Rattle.std.specs.Prelude.{ℕ, ◌≡◌, ◌<◌, ◌≤◌, ◌^◌, ◌*◌, IsTrue, IfOk, length, unsigned_abs};
 ghost use Rattle.std.specs.List.{All};
 ghost use Rattle.irr_space.specs.Reciprocal.{IsOrder};
@@ -11,7 +11,7 @@ ghost use Rattle.irr_close.specs.Closing.{IsGenerator};
 ghost use Rattle.irr_close.specs.StandsFor.{stands_for};
 ghost use Rattle.irr_mult.specs.StarParts.{HasCharacters};
 
-use crate::{Memory, Part, StarCharacters, push_parts, star_characters};
+use crate::{Memory, Part, StarCharacters, push_parts, representatives, star_characters};
 use irr_close::{Group, close};
 use irr_cyc::{Dense, Lift, Order, Scalar};
 use irr_kvec::{Wave, period};
@@ -223,5 +223,46 @@ fn two_arms(rt: HostRuntime) -> Result<(), Fail> {
     let k = wave([1, 0, 0], 4);
     let parts = parts_at::<Dense>(alloc, &generators, &k, 0)?;
     assert!(rt; is_alone(&parts, &k, 1, 1, 2));
+    Ok(())
+}
+
+fn are_within_limits(waves: &[Wave]) -> bool
+    ensures { IsTrue result → All IsWithinLimits waves.now }
+{
+    waves.iter().all(|wave| is_within_limits(wave))
+}
+
+// The representatives of the stars of some wave vectors of a group; none where there is none.
+fn stars_of(alloc: Global, generators: &[Op], waves: &[Wave]) -> Result<Vec<Wave>, Memory> {
+    let Some(group) = closed(alloc, generators) else {
+        return Ok(Vec::new(alloc));
+    };
+    if !are_within_limits(waves) {
+        return Ok(Vec::new(alloc));
+    }
+    let stars = representatives(alloc, &group, waves)?;
+    Ok(stars)
+}
+
+fn is_wave(wave: &Wave, num: [i64; 3], den: u32) -> bool {
+    wave.num == num && wave.den == den
+}
+
+// Whether there are two, the first 0,0,0 and the second 1/4,0,0.
+fn are_zero_and_quarter(stars: &[Wave]) -> bool {
+    if stars.len() != 2 {
+        return false;
+    }
+    is_wave(&stars[0], [0, 0, 0], 1) && is_wave(&stars[1], [1, 0, 0], 4)
+}
+
+// The inversion takes 1/4,0,0 to 3/4,0,0, which is not the least of their star.
+#[test]
+fn two_stars(rt: HostRuntime) -> Result<(), Fail> {
+    let alloc = rt.alloc();
+    let generators = [op(INVERSION, [0, 0, 0], 1)];
+    let waves = [wave([1, 0, 0], 4), wave([3, 0, 0], 4), wave([0, 0, 0], 1)];
+    let stars = stars_of(alloc, &generators, &waves)?;
+    assert!(rt; are_zero_and_quarter(&stars));
     Ok(())
 }
