@@ -65,7 +65,7 @@ module _ (G H : Operation → Type 0) (same : (g : Operation) → G g ↔ H g) w
     ordered = s.ordered;
   }
 
-  period_along : (k : WaveVector) (q : ℕ) → IsPeriod G k q → IsPeriod H k q
+  pub period_along : (k : WaveVector) (q : ℕ) → IsPeriod G k q → IsPeriod H k q
   period_along k q p = record {
     positive = p.positive;
     reciprocal = reciprocal_along G H same (multiple q k) p.reciprocal;
