@@ -1,0 +1,11 @@
+pub mod Gathering
+pub mod Powers
+pub mod ReadRows
+pub mod LineParts
+pub mod Lines
+pub mod TurnedPlaces
+pub mod PointReadings
+pub mod Rows
+pub mod LinePoints
+pub mod PointLists
+pub mod LineLists

@@ -1,0 +1,6 @@
+pub mod Relations
+pub mod Parts
+pub mod Rows
+pub mod Turns
+pub mod Readings
+pub mod LineTables
