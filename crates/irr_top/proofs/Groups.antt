@@ -1,7 +1,7 @@
 -- What is known of the group of generators that can be read, at a wave vector.
 --   is_group, centrings_of, centring_list     it is a group, with these centrings
 --   reduced_of              the reduced wave vector
---   order_at                equivalent wave vectors have one order
+--   period_at, order_at     equivalent wave vectors have one period and one order
 use Rattle.std.proofs.Common.{◌≡◌, sym, ◌∙◌, ap, ap₂, subst, ℕ, List, pos}
 use Rattle.irr_algebra.specs.Matrix.{◌⊖◌}
 use Rattle.irr_algebra.specs.Ring.{whole}
@@ -11,7 +11,7 @@ use Rattle.irr_rational.specs.Rational.{Rational, rationals, IsWhole}
 use Rattle.irr_rational.proofs.WholeNumbers.{whole-integer, whole-add, whole-mul}
 use Rattle.irr_space.specs.Operation.{Operation, WaveVector, Vector, dot}
 use Rattle.irr_space.specs.SpaceGroup.Generated.{one, product, inverse}
-use Rattle.irr_space.specs.Reciprocal.{IsReciprocal, AreEquivalent, IsOrder, IsReduced, times}
+use Rattle.irr_space.specs.Reciprocal.{IsReciprocal, AreEquivalent, IsOrder, IsPeriod, IsReduced, times}
 use Rattle.irr_seitz.specs.declared.op.Op.{Op}
 use Rattle.irr_kvec.specs.Centrings.{LatticeOf, AreCentrings, IsCentringList}
 use Rattle.irr_kvec.proofs.GroupLattices.{reduced_in_group}
@@ -73,15 +73,18 @@ module _ (G : Operation → Type 0) (group : IsGroup G) (k w : WaveVector) (e : 
   }
 
 module _ (G : Operation → Type 0) (group : IsGroup G) (k w : WaveVector) (e : AreEquivalent G w k) where
+  pub period_at : (q : ℕ) → IsPeriod G k q → IsPeriod G w q
+  period_at q p = record {
+    positive = p.positive;
+    reciprocal = multiple_along G group k w e q p.reciprocal;
+    least = λ m l r. p.least m l (multiple_along G group w k (equivalent_sym G w k e) m r);
+  }
+
   pub order_at : (n : ℕ) → IsOrder G k n → IsOrder G w n
   order_at n o = record {
     exponent = o.exponent;
     period = o.period;
     is_exponent = o.is_exponent;
-    is_period = record {
-      positive = o.is_period.positive;
-      reciprocal = multiple_along G group k w e o.period o.is_period.reciprocal;
-      least = λ m l r. o.is_period.least m l (multiple_along G group w k (equivalent_sym G w k e) m r);
-    };
+    is_period = period_at o.period o.is_period;
     is_product = o.is_product;
   }

@@ -18,6 +18,8 @@ pub mod FirstPieces
 pub mod FirstArms
 pub mod StarTexts
 pub mod FullTexts
+pub mod ProductsAlong
+pub mod ProductTexts
 pub mod RealTexts
 pub mod RealContents
 pub mod OneStar

@@ -21,7 +21,7 @@ use Rattle.irr_check.proofs.OneVerdict.{one_verdict}
 use Rattle.irr_top.specs.GroupOf.{group_of}
 use Rattle.irr_top.specs.CheckCommand.{verdict_status}
 use Rattle.irr_top.specs.Question.{Question, question_of}
-use Rattle.irr_top.specs.Question.Question.{star, small, full, real, check}
+use Rattle.irr_top.specs.Question.Question.{star, small, full, product, real, check}
 use Rattle.irr_top.specs.Answer.{AsksOfGroup, IsReply, order_limit}
 use Rattle.irr_top.specs.Answer.AsksOfGroup.{order_too_large, reply}
 use Rattle.irr_top.specs.Asked.{Asks, AsksOfBytes, AsksOfLines, AsksOfInput, AsksOfGenerators, input_limit, operations_of, passed_limit}
@@ -32,7 +32,7 @@ use Rattle.irr_top.specs.Asked.AsksOfBytes.{too_long, lines}
 use Rattle.irr_top.specs.Asked.Asks.{faulty_word, request}
 use Rattle.irr_top.specs.Request.{command_of, IsCommand}
 use Rattle.irr_top.specs.declared.request.Request.{Request}
-use Rattle.irr_top.specs.declared.request.Request.TheVariants.{Star, Small, Full, Real, Check}
+use Rattle.irr_top.specs.declared.request.Request.TheVariants.{Star, Small, Full, Product, Real, Check}
 use Rattle.irr_top.specs.declared.status.Status.{Status}
 use Rattle.irr_top.specs.declared.status.Status.TheVariants.{Usage, BadInput, TooLarge}
 use Rattle.irr_top.specs.declared.status.Kind.{Kind}
@@ -48,6 +48,7 @@ reply_once : (q : Question) (G : Operation → Type 0) (s t : Status) (x y : Lis
 reply_once (star k) G s t x y a b = a.0 ∙ sym b.0
 reply_once (small k) G s t x y a b = a.0 ∙ sym b.0
 reply_once (full k) G s t x y a b = a.0 ∙ sym b.0
+reply_once (product k l) G s t x y a b = a.0 ∙ sym b.0
 reply_once (real k) G s t x y a b = a.0 ∙ sym b.0
 reply_once (check r) G s t x y a b = a.is_status ∙ ap verdict_status (one_verdict meaning minus G r a.is_verdict b.is_verdict) ∙ sym b.is_status
 
@@ -111,30 +112,45 @@ generators_along q {s = s} {x = x} same (group a g) = group (accepted_along same
 
 question_once : (r q : Request) (c d : Option ReportContent) → AreOneCommand (command_of r) (command_of q) → c ≡ d
     → question_of r c ≡ question_of q d
-question_once (Star k) (Star l) c d h e = let a = h.arguments in let w : wave_vector k ≡ wave_vector l = cc in ap (λ x. Some (star x)) w
-question_once (Star k) (Small l) c d h e = absurd (let a = h.verb in cc)
-question_once (Star k) (Full l) c d h e = absurd (let a = h.verb in cc)
-question_once (Star k) (Real l) c d h e = absurd (let a = h.verb in cc)
+question_once (Star k) (Star m) c d h e = let a = h.arguments in let w : wave_vector k ≡ wave_vector m = cc in ap (λ x. Some (star x)) w
+question_once (Star k) (Small m) c d h e = absurd (let a = h.verb in cc)
+question_once (Star k) (Full m) c d h e = absurd (let a = h.verb in cc)
+question_once (Star k) (Product m n) c d h e = absurd (let a = h.verb in cc)
+question_once (Star k) (Real m) c d h e = absurd (let a = h.verb in cc)
 question_once (Star k) Check c d h e = absurd (let a = h.verb in cc)
-question_once (Small k) (Star l) c d h e = absurd (let a = h.verb in cc)
-question_once (Small k) (Small l) c d h e = let a = h.arguments in let w : wave_vector k ≡ wave_vector l = cc in ap (λ x. Some (small x)) w
-question_once (Small k) (Full l) c d h e = absurd (let a = h.verb in cc)
-question_once (Small k) (Real l) c d h e = absurd (let a = h.verb in cc)
+question_once (Small k) (Star m) c d h e = absurd (let a = h.verb in cc)
+question_once (Small k) (Small m) c d h e = let a = h.arguments in let w : wave_vector k ≡ wave_vector m = cc in ap (λ x. Some (small x)) w
+question_once (Small k) (Full m) c d h e = absurd (let a = h.verb in cc)
+question_once (Small k) (Product m n) c d h e = absurd (let a = h.verb in cc)
+question_once (Small k) (Real m) c d h e = absurd (let a = h.verb in cc)
 question_once (Small k) Check c d h e = absurd (let a = h.verb in cc)
-question_once (Full k) (Star l) c d h e = absurd (let a = h.verb in cc)
-question_once (Full k) (Small l) c d h e = absurd (let a = h.verb in cc)
-question_once (Full k) (Full l) c d h e = let a = h.arguments in let w : wave_vector k ≡ wave_vector l = cc in ap (λ x. Some (full x)) w
-question_once (Full k) (Real l) c d h e = absurd (let a = h.verb in cc)
+question_once (Full k) (Star m) c d h e = absurd (let a = h.verb in cc)
+question_once (Full k) (Small m) c d h e = absurd (let a = h.verb in cc)
+question_once (Full k) (Full m) c d h e = let a = h.arguments in let w : wave_vector k ≡ wave_vector m = cc in ap (λ x. Some (full x)) w
+question_once (Full k) (Product m n) c d h e = absurd (let a = h.verb in cc)
+question_once (Full k) (Real m) c d h e = absurd (let a = h.verb in cc)
 question_once (Full k) Check c d h e = absurd (let a = h.verb in cc)
-question_once (Real k) (Star l) c d h e = absurd (let a = h.verb in cc)
-question_once (Real k) (Small l) c d h e = absurd (let a = h.verb in cc)
-question_once (Real k) (Full l) c d h e = absurd (let a = h.verb in cc)
-question_once (Real k) (Real l) c d h e = let a = h.arguments in let w : wave_vector k ≡ wave_vector l = cc in ap (λ x. Some (real x)) w
+question_once (Product k l) (Star m) c d h e = absurd (let a = h.verb in cc)
+question_once (Product k l) (Small m) c d h e = absurd (let a = h.verb in cc)
+question_once (Product k l) (Full m) c d h e = absurd (let a = h.verb in cc)
+question_once (Product k l) (Product m n) c d h e =
+    let a = h.arguments in
+    let first : wave_vector k ≡ wave_vector m = cc in
+    let second : wave_vector l ≡ wave_vector n = cc in
+    ap₂ (λ x y. Some (product x y)) first second
+question_once (Product k l) (Real m) c d h e = absurd (let a = h.verb in cc)
+question_once (Product k l) Check c d h e = absurd (let a = h.verb in cc)
+question_once (Real k) (Star m) c d h e = absurd (let a = h.verb in cc)
+question_once (Real k) (Small m) c d h e = absurd (let a = h.verb in cc)
+question_once (Real k) (Full m) c d h e = absurd (let a = h.verb in cc)
+question_once (Real k) (Product m n) c d h e = absurd (let a = h.verb in cc)
+question_once (Real k) (Real m) c d h e = let a = h.arguments in let w : wave_vector k ≡ wave_vector m = cc in ap (λ x. Some (real x)) w
 question_once (Real k) Check c d h e = absurd (let a = h.verb in cc)
-question_once Check (Star l) c d h e = absurd (let a = h.verb in cc)
-question_once Check (Small l) c d h e = absurd (let a = h.verb in cc)
-question_once Check (Full l) c d h e = absurd (let a = h.verb in cc)
-question_once Check (Real l) c d h e = absurd (let a = h.verb in cc)
+question_once Check (Star m) c d h e = absurd (let a = h.verb in cc)
+question_once Check (Small m) c d h e = absurd (let a = h.verb in cc)
+question_once Check (Full m) c d h e = absurd (let a = h.verb in cc)
+question_once Check (Product m n) c d h e = absurd (let a = h.verb in cc)
+question_once Check (Real m) c d h e = absurd (let a = h.verb in cc)
 question_once Check Check c d h e = ap (question_of Check) e
 
 -- two readings of one input by one command

@@ -11,14 +11,14 @@ use Rattle.irr_input.specs.declared.words.Command.TheVariants as commands
 use Rattle.irr_input.proofs.WaveTexts.{zero-text, zero_wave}
 use Rattle.irr_input.proofs.WordForms.{verb_unique}
 use Rattle.irr_top.specs.Request.{BeginsServed, IsCommand, IsFaultyWord, IsServed}
-use Rattle.irr_top.specs.declared.request.Request.TheVariants.{Star, Small, Full, Real, Check}
+use Rattle.irr_top.specs.declared.request.Request.TheVariants.{Star, Small, Full, Product, Real, Check}
 
 served_command : (words : List (List ℕ)) (c : Command) → AreWords words c → IsServed c → IsCommand words
 served_command words (commands.Star k) a v = (Star k, a)
 served_command words (commands.Small k) a v = (Small k, a)
 served_command words (commands.Full k) a v = (Full k, a)
 served_command words (commands.Real k) a v = (Real k, a)
-served_command words (commands.Product k l) a v = absurd v
+served_command words (commands.Product k l) a v = (Product k l, a)
 served_command words (commands.Subduce k) a v = absurd v
 served_command words (commands.Compat k l m) a v = absurd v
 served_command words commands.Check a v = (Check, a)
@@ -30,28 +30,26 @@ same_served (commands.Star k) d v e = tt
 same_served (commands.Small k) d v e = tt
 same_served (commands.Full k) d v e = tt
 same_served (commands.Real k) d v e = tt
+same_served (commands.Product k l) d v e = tt
 same_served commands.Check d v e = tt
-same_served (commands.Product k m) (commands.Star l) v e = cc
-same_served (commands.Product k m) (commands.Small l) v e = cc
-same_served (commands.Product k m) (commands.Full l) v e = cc
-same_served (commands.Product k m) (commands.Real l) v e = cc
-same_served (commands.Product k m) commands.Check v e = cc
-same_served (commands.Subduce k) (commands.Star l) v e = cc
-same_served (commands.Subduce k) (commands.Small l) v e = cc
-same_served (commands.Subduce k) (commands.Full l) v e = cc
-same_served (commands.Subduce k) (commands.Real l) v e = cc
+same_served (commands.Subduce k) (commands.Star j) v e = cc
+same_served (commands.Subduce k) (commands.Small j) v e = cc
+same_served (commands.Subduce k) (commands.Full j) v e = cc
+same_served (commands.Subduce k) (commands.Real j) v e = cc
+same_served (commands.Subduce k) (commands.Product i j) v e = cc
 same_served (commands.Subduce k) commands.Check v e = cc
-same_served (commands.Compat k m n) (commands.Star l) v e = cc
-same_served (commands.Compat k m n) (commands.Small l) v e = cc
-same_served (commands.Compat k m n) (commands.Full l) v e = cc
-same_served (commands.Compat k m n) (commands.Real l) v e = cc
+same_served (commands.Compat k m n) (commands.Star j) v e = cc
+same_served (commands.Compat k m n) (commands.Small j) v e = cc
+same_served (commands.Compat k m n) (commands.Full j) v e = cc
+same_served (commands.Compat k m n) (commands.Real j) v e = cc
+same_served (commands.Compat k m n) (commands.Product i j) v e = cc
 same_served (commands.Compat k m n) commands.Check v e = cc
-same_served (commands.Gen n) (commands.Star l) v e = cc
-same_served (commands.Gen n) (commands.Small l) v e = cc
-same_served (commands.Gen n) (commands.Full l) v e = cc
-same_served (commands.Gen n) (commands.Real l) v e = cc
+same_served (commands.Gen n) (commands.Star j) v e = cc
+same_served (commands.Gen n) (commands.Small j) v e = cc
+same_served (commands.Gen n) (commands.Full j) v e = cc
+same_served (commands.Gen n) (commands.Real j) v e = cc
+same_served (commands.Gen n) (commands.Product i j) v e = cc
 same_served (commands.Gen n) commands.Check v e = cc
-same_served c (commands.Product l m) v e = absurd v
 same_served c (commands.Subduce l) v e = absurd v
 same_served c (commands.Compat l m n) v e = absurd v
 same_served c (commands.Gen n) v e = absurd v
@@ -60,6 +58,7 @@ any_command : (words : List (List ℕ)) → IsCommand words → IsAnyCommand wor
 any_command words (Star k, a) = (commands.Star k, a)
 any_command words (Small k, a) = (commands.Small k, a)
 any_command words (Full k, a) = (commands.Full k, a)
+any_command words (Product k l, a) = (commands.Product k l, a)
 any_command words (Real k, a) = (commands.Real k, a)
 any_command words (Check, a) = (commands.Check, a)
 
@@ -71,13 +70,15 @@ begins : (words : List (List ℕ)) → IsCommand words → BeginsServed words
 begins [] (Star k, a) = let e : [] ≡ codes "star" ∷ a.behind = a.spelled in cc
 begins [] (Small k, a) = let e : [] ≡ codes "small" ∷ a.behind = a.spelled in cc
 begins [] (Full k, a) = let e : [] ≡ codes "full" ∷ a.behind = a.spelled in cc
+begins [] (Product k l, a) = let e : [] ≡ codes "product" ∷ a.behind = a.spelled in cc
 begins [] (Real k, a) = let e : [] ≡ codes "real" ∷ a.behind = a.spelled in cc
 begins [] (Check, a) = let e : [] ≡ codes "check" ∷ a.behind = a.spelled in cc
 begins (first ∷ ws) (Star k, a) = inl (first_word first ws (commands.Star k) a)
 begins (first ∷ ws) (Small k, a) = inr (inl (first_word first ws (commands.Small k) a))
 begins (first ∷ ws) (Full k, a) = inr (inr (inl (first_word first ws (commands.Full k) a)))
-begins (first ∷ ws) (Real k, a) = inr (inr (inr (inl (first_word first ws (commands.Real k) a))))
-begins (first ∷ ws) (Check, a) = inr (inr (inr (inr (first_word first ws commands.Check a))))
+begins (first ∷ ws) (Product k l, a) = inr (inr (inr (inl (first_word first ws (commands.Product k l) a))))
+begins (first ∷ ws) (Real k, a) = inr (inr (inr (inr (inl (first_word first ws (commands.Real k) a)))))
+begins (first ∷ ws) (Check, a) = inr (inr (inr (inr (inr (first_word first ws commands.Check a)))))
 
 served_first : (first : List ℕ) (ws : List (List ℕ)) (c : Command) → BeginsServed (first ∷ ws) → AreWords (first ∷ ws) c → IsServed c
 served_first first ws c (inl e) a = same_served c (commands.Star zero_wave) tt
@@ -86,9 +87,11 @@ served_first first ws c (inr (inl e)) a = same_served c (commands.Small zero_wav
     (verb_unique (verb_of c) (verb_of (commands.Small zero_wave)) (sym (first_word first ws c a) ∙ e))
 served_first first ws c (inr (inr (inl e))) a = same_served c (commands.Full zero_wave) tt
     (verb_unique (verb_of c) (verb_of (commands.Full zero_wave)) (sym (first_word first ws c a) ∙ e))
-served_first first ws c (inr (inr (inr (inl e)))) a = same_served c (commands.Real zero_wave) tt
+served_first first ws c (inr (inr (inr (inl e)))) a = same_served c (commands.Product zero_wave zero_wave) tt
+    (verb_unique (verb_of c) (verb_of (commands.Product zero_wave zero_wave)) (sym (first_word first ws c a) ∙ e))
+served_first first ws c (inr (inr (inr (inr (inl e))))) a = same_served c (commands.Real zero_wave) tt
     (verb_unique (verb_of c) (verb_of (commands.Real zero_wave)) (sym (first_word first ws c a) ∙ e))
-served_first first ws c (inr (inr (inr (inr e)))) a = same_served c commands.Check tt
+served_first first ws c (inr (inr (inr (inr (inr e))))) a = same_served c commands.Check tt
     (verb_unique (verb_of c) (verb_of commands.Check) (sym (first_word first ws c a) ∙ e))
 
 some_command : IsCommand (codes "star" ∷ codes "0,0,0" ∷ [])

@@ -10,10 +10,11 @@ use Rattle.std.specs.Prelude.{ℕ, ◌<◌, ◌≤◌, List}
 use Rattle.irr_cyc.specs.declared.orders.TheConstants.{ORDER_LIMIT}
 use Rattle.irr_space.specs.Operation.{Operation}
 use Rattle.irr_top.specs.Question.{Question, IsNeededOrder}
-use Rattle.irr_top.specs.Question.Question.{star, small, full, real, check}
+use Rattle.irr_top.specs.Question.Question.{star, small, full, product, real, check}
 use Rattle.irr_top.specs.StarCommand.{IsStarReply}
 use Rattle.irr_top.specs.SmallCommand.{IsSmallReply}
 use Rattle.irr_top.specs.FullCommand.{IsFullReply}
+use Rattle.irr_top.specs.ProductCommand.{IsProductReply}
 use Rattle.irr_top.specs.RealCommand.{IsRealReply}
 use Rattle.irr_top.specs.CheckCommand.{IsCheckReply}
 use Rattle.irr_top.specs.RefusalText.{refusal_text}
@@ -31,6 +32,7 @@ abbrev pub IsReply : Question → (Operation → Type 0) → Status → List ℕ
 IsReply (star k) G s text = IsStarReply G k s text
 IsReply (small k) G s text = IsSmallReply G k s text
 IsReply (full k) G s text = IsFullReply G k s text
+IsReply (product k l) G s text = IsProductReply G k l s text
 IsReply (real k) G s text = IsRealReply G k s text
 IsReply (check r) G s text = IsCheckReply G r s text
 

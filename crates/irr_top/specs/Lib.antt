@@ -6,6 +6,7 @@ pub mod Question
 pub mod StarCommand
 pub mod SmallCommand
 pub mod FullCommand
+pub mod ProductCommand
 pub mod RealCommand
 pub mod CheckCommand
 pub mod Answer

@@ -6,14 +6,15 @@ use Rattle.irr_kvec.specs.WaveMeaning.{wave_vector}
 use Rattle.irr_report.specs.Content.{content_of}
 use Rattle.irr_report.specs.Limits.{IsWithinLimits as IsLimitedReport}
 use Rattle.irr_top.specs.Question.{Question}
-use Rattle.irr_top.specs.Question.Question.{star, small, full, real, check}
+use Rattle.irr_top.specs.Question.Question.{star, small, full, product, real, check}
 use Rattle.irr_top.specs.declared.task.Task.{Task}
-use Rattle.irr_top.specs.declared.task.Task.TheVariants.{Star, Small, Full, Real, Check}
+use Rattle.irr_top.specs.declared.task.Task.TheVariants.{Star, Small, Full, Product, Real, Check}
 
 abbrev pub asked_by : Task → Question
 asked_by (Star k) = star (wave_vector k)
 asked_by (Small k) = small (wave_vector k)
 asked_by (Full k) = full (wave_vector k)
+asked_by (Product k l) = product (wave_vector k) (wave_vector l)
 asked_by (Real k) = real (wave_vector k)
 asked_by (Check r) = check (content_of r)
 
@@ -21,5 +22,6 @@ abbrev pub IsLimited : Task → Type 0
 IsLimited (Star k) = IsWithinLimits k
 IsLimited (Small k) = IsWithinLimits k
 IsLimited (Full k) = IsWithinLimits k
+IsLimited (Product k l) = IsWithinLimits k × IsWithinLimits l
 IsLimited (Real k) = IsWithinLimits k
 IsLimited (Check r) = IsLimitedReport r

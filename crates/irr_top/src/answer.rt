@@ -17,6 +17,7 @@ ghost use Rattle.irr_top.specs.Task.{asked_by, IsLimited};
 
 use crate::check::check_reply;
 use crate::full::full_reply;
+use crate::product::product_reply;
 use crate::real::real_reply;
 use crate::refusal::{finish, refuse};
 use crate::reply::{NoReply, Reply};
@@ -179,6 +180,7 @@ fn reply_of(alloc: Global, task: &Task, group: &Group) -> Result<Reply, NoReply>
         Task::Star(wave) => star_reply(alloc, group, wave),
         Task::Small(wave) => small_reply(alloc, group, wave),
         Task::Full(wave) => full_reply(alloc, group, wave),
+        Task::Product(first, second) => product_reply(alloc, group, first, second),
         Task::Real(wave) => real_reply(alloc, group, wave),
         Task::Check(report) => check_reply(alloc, group, report),
     }

@@ -5,6 +5,7 @@ mod answer;
 mod check;
 mod full;
 mod laws;
+mod product;
 mod real;
 mod refusal;
 mod reply;

@@ -15,6 +15,8 @@ pub(crate) enum Request {
     Small(Wave),
     /// The full representations at a wave vector.
     Full(Wave),
+    /// The direct products of the full representations at two wave vectors.
+    Product(Wave, Wave),
     /// The types of the full representations.
     Real(Wave),
     /// The verdict on the input's report.
@@ -46,9 +48,10 @@ fn request_of(command: Command) -> Option<Request>
         Command::Star(wave) => Some(Request::Star(wave)),
         Command::Small(wave) => Some(Request::Small(wave)),
         Command::Full(wave) => Some(Request::Full(wave)),
+        Command::Product(first, second) => Some(Request::Product(first, second)),
         Command::Real(wave) => Some(Request::Real(wave)),
         Command::Check => Some(Request::Check),
-        Command::Product(..) | Command::Subduce(_) | Command::Compat(..) | Command::Gen(_) => None,
+        Command::Subduce(_) | Command::Compat(..) | Command::Gen(_) => None,
     }
 }
 
@@ -59,7 +62,7 @@ fn begins_served(words: &[Vec<u8>]) -> bool
     match words.split_first() {
         Some((first, _)) => matches!(
             first.as_slice(),
-            b"star" | b"small" | b"full" | b"real" | b"check"
+            b"star" | b"small" | b"full" | b"product" | b"real" | b"check"
         ),
         None => false,
     }

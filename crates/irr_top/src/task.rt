@@ -24,6 +24,8 @@ pub(crate) enum Task {
     Small(Wave),
     /// The full representations at a wave vector.
     Full(Wave),
+    /// The direct products of the full representations at two wave vectors.
+    Product(Wave, Wave),
     /// The types of the full representations at a wave vector.
     Real(Wave),
     /// The verdict on a report.
@@ -42,6 +44,7 @@ pub(crate) fn task_of(request: &Request, report: Option<Report<Number>>) -> Opti
         Request::Star(wave) => Some(Task::Star(*wave)),
         Request::Small(wave) => Some(Task::Small(*wave)),
         Request::Full(wave) => Some(Task::Full(*wave)),
+        Request::Product(first, second) => Some(Task::Product(*first, *second)),
         Request::Real(wave) => Some(Task::Real(*wave)),
         Request::Check => match report {
             Some(report) => Some(Task::Check(report)),

@@ -18,6 +18,10 @@ pub returns-in-Full-clause-none : goal.returns-in-Full-clause-none
 returns-in-Full-clause-none c = λ gens is. subst (λ (t : Task). IfErr c.full_reply.result (IsNoReply (asked_by t) (group_of gens)))
     (sym c.in-Full.is) (c.full_reply.ensures.none gens is)
 
+pub returns-in-Product-clause-none : goal.returns-in-Product-clause-none
+returns-in-Product-clause-none c = λ gens is. subst (λ (t : Task). IfErr c.product_reply.result (IsNoReply (asked_by t) (group_of gens)))
+    (sym c.in-Product.is) (c.product_reply.ensures.none gens is)
+
 pub returns-in-Real-clause-none : goal.returns-in-Real-clause-none
 returns-in-Real-clause-none c = λ gens is. subst (λ (t : Task). IfErr c.real_reply.result (IsNoReply (asked_by t) (group_of gens)))
     (sym c.in-Real.is) (c.real_reply.ensures.none gens is)
