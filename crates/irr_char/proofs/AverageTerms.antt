@@ -3,12 +3,14 @@
 --   few_powers, few_products conditions of the two products of a term
 --   term-value               the two products make the term
 --   term-small               the size of a term
+--   term-zero_left, term-zero_right      a term is 0 where one of its numbers is
 use Rattle.std.proofs.Common.{◌≡◌, sym, ◌∙◌, ap, ap₂, subst, ℕ, ◌*◌, ◌-◌, ◌/◌, ◌%◌, ◌<◌, ◌≤◌, ◌^◌, List, length, get_or, map, arith}
 use native.Mathlib.Nat as Nat
 use Rattle.std.proofs.lemmas.List.{get_or-map}
 use Rattle.std.proofs.lemmas.List.Elements.{All-get_or}
 use Rattle.irr_algebra.specs.Fin.{Fin, to_nat}
 use Rattle.irr_algebra.proofs.Indices.{from_nat, to_nat-from_nat}
+use Rattle.irr_algebra.proofs.Rings.{mul-zero, zero-mul}
 use Rattle.irr_number.specs.Number.{Number, numbers, root_power}
 use Rattle.irr_canonical.specs.RootSum.{IsRootSum}
 use Rattle.irr_canonical.proofs.RootSums.{IsRootSum-mul, IsRootSum-root}
@@ -54,3 +56,17 @@ module _ {h : ℕ} (T : PhaseTable h) (n : ℕ) (f g : Fin h → Number n) where
   unfolding average_term
   term-small a b p = IsRootSum-mul n (b p) (IsRootSum-mul n (IsRootSum-root n ((T.order - 1) * T.exponent p (T.opposite p) % T.order * (n / T.order)))
       (a (T.opposite p)))
+
+  pub term-zero_left : (p : Fin h) → f (T.opposite p) ≡ (numbers n).zero → average_term T n f g p ≡ (numbers n).zero
+  unfolding average_term
+  term-zero_left p e =
+      let N = numbers n in
+      let z = root_power n ((T.order - 1) * T.exponent p (T.opposite p) % T.order * (n / T.order)) in
+      ap (λ x. N.mul (g p) (N.mul z x)) e ∙ ap (N.mul (g p)) (mul-zero N z) ∙ mul-zero N (g p)
+
+  pub term-zero_right : (p : Fin h) → g p ≡ (numbers n).zero → average_term T n f g p ≡ (numbers n).zero
+  unfolding average_term
+  term-zero_right p e =
+      let N = numbers n in
+      let z = root_power n ((T.order - 1) * T.exponent p (T.opposite p) % T.order * (n / T.order)) in
+      ap (λ x. N.mul x (N.mul z (f (T.opposite p)))) e ∙ zero-mul N (N.mul z (f (T.opposite p)))

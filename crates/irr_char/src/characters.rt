@@ -1,5 +1,5 @@
 // Characters of small representations, and their scalar products.
-ghost use Rattle.std.specs.Prelude.{ℕ, ◌≡◌, ◌<◌, ◌≤◌, ◌*◌, ◌-◌, ◌/◌, ◌%◌, ◌^◌, length, map, IfOk};
+ghost use Rattle.std.specs.Prelude.{ℕ, ◌≡◌, ◌<◌, ◌≤◌, ◌*◌, ◌-◌, ◌/◌, ◌%◌, ◌^◌, length, map, IfOk, IsTrue};
 ghost use Rattle.std.specs.Int.{◌∣◌};
 ghost use Rattle.irr_algebra.specs.Action.{HasDimension};
 ghost use Rattle.irr_algebra.specs.Fin.{Fin, to_nat};
@@ -72,6 +72,22 @@ fn term<S: Scalar>(
     b[i as usize].mul(alloc, &inverse)
 }
 
+// Whether the term at place i is 0 since one of its numbers is.
+fn vanishes<S: Scalar>(t: &Twisted, a: &[S], b: &[S], i: u32) -> bool
+    requires rows { (n : ℕ) × IsSmallRow S.order_of S.value n (place_count t.now) a.now
+        × IsRowWithin S.order_of S.value n (place_count t.now) 2304 b.now }
+    requires place { i < place_count t.now }
+    ensures { (n : ℕ) → IsSmallRow S.order_of S.value n (place_count t.now) a.now
+        → IsRowWithin S.order_of S.value n (place_count t.now) 2304 b.now → IsTrue result → (p : Fin (place_count t.now)) → to_nat p ≡ i
+        → average_term (phase_table t.now) n (row_of n (map (S.value n) a.now)) (row_of n (map (S.value n) b.now)) p ≡ (numbers n).zero }
+{
+    let back = t.inverse(i);
+    if a[back as usize].is_zero() {
+        return true;
+    }
+    b[i as usize].is_zero()
+}
+
 /// The whole number that a number is. The error is want of memory.
 pub fn whole_number<S: Scalar>(alloc: Global, x: &S) -> Result<u32, Memory>
     requires whole { (k : ℕ) × (k < 2 ^ 31) × (let n = S.order_of x.now in S.value n x.now ≡ whole (numbers n) k) }
@@ -99,6 +115,9 @@ pub fn average<S: Scalar>(alloc: Global, t: &Twisted, a: &[S], b: &[S]) -> Resul
     let order = Order::new(alloc, a[0].order())?;
     let mut sum = S::zero(alloc, &order)?;
     for i in 0..t.len() {
+        if vanishes(t, a, b, i) {
+            continue;
+        }
         let next = term(alloc, t, &order, a, b, i)?;
         sum = sum.add(alloc, &next)?;
     }

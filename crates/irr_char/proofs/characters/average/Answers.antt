@@ -1,11 +1,11 @@
 -- The scalar product, and the dimension that it counts.
-use Rattle.std.proofs.Common.{rules, ◌≡◌, sym, ◌∙◌, subst, ◌*◌, ◌<◌, ◌≤◌, ◌^◌, map, arith}
+use Rattle.std.proofs.Common.{rules, ◌≡◌, sym, ◌∙◌, subst, ◌*◌, ◌<◌, ◌≤◌, ◌^◌, IsTrue, map, arith}
 use native.Mathlib.Nat as Nat
 use Rattle.irr_algebra.specs.Action.{HasDimension}
 use Rattle.irr_number.specs.Number.{numbers}
 use Rattle.irr_canonical.specs.Coefficient.{denominator, size}
 use Rattle.irr_canonical.specs.RootSum.{IsRootSum}
-use Rattle.irr_mat.proofs.PartialSums.{partial-add, partial-none, partial-within}
+use Rattle.irr_mat.proofs.PartialSums.{partial-add, partial-none, partial-skip, partial-within}
 use Rattle.irr_mat.proofs.Sizes.{sum_denominators, sum_sizes}
 use Rattle.irr_rep.specs.Twisted.{place_count, phase_table}
 use Rattle.irr_char.specs.Rows.{row_of}
@@ -99,6 +99,34 @@ loop-i-preserved g c =
     (subst (λ u. value u c.in_ok-sum-2.sum ≡ (numbers u).add (value u c.loop-i.sum)
     (value u c.in_ok-next.next)) c.loop-i.invariant.has_order c.in_ok-sum-2.ensures.value)
     (next-value n t k l (value n c.in_ok-next.next) c.in_ok-next.ensures.value)
+
+pub vanishes-requires-clause-rows : goal.vanishes-requires-clause-rows
+vanishes-requires-clause-rows g c =
+    let order = g.S.Scalar.order_of in
+    let value = g.S.Scalar.value in
+    let n = c.in_ok-order.order.n in
+    let T = phase_table c.args.t.now in
+    let p = c.requires in
+    let e = own_order order value T c.args.a.now c.args.b.now p c.index-a-0.result n c.order.result c.index-a-0.is c.order.ensures c.in_ok-order.ensures in (
+      n,
+      left_at order value T c.args.a.now c.args.b.now p n e c.in_ok-order.order.positive,
+      right_at order value T c.args.a.now c.args.b.now p n e c.in_ok-order.order.positive,
+    )
+
+pub loop-i-preserved-then-vanishes : goal.loop-i-preserved-then-vanishes
+loop-i-preserved-then-vanishes g c =
+    let order = g.S.Scalar.order_of in
+    let value = g.S.Scalar.value in
+    let n = c.in_ok-order.order.n in
+    let T = phase_table c.args.t.now in
+    let p = c.requires in
+    let e = own_order order value T c.args.a.now c.args.b.now p c.index-a-0.result n c.order.result c.index-a-0.is c.order.ensures c.in_ok-order.ensures in
+    let t = average_term T n (row_of n (map (value n) c.args.a.now)) (row_of n (map (value n) c.args.b.now)) in
+    let k = c.loop-i.i in
+    let l : k < place_count c.args.t.now = search rules in
+    let zero = c.vanishes.ensures n (left_at order value T c.args.a.now c.args.b.now p n e c.in_ok-order.order.positive)
+    (right_at order value T c.args.a.now c.args.b.now p n e c.in_ok-order.order.positive) (let b : IsTrue c.vanishes.result = search rules in b) in
+    partial-skip order value n (extended n t) k c.loop-i.sum c.loop-i.invariant (sym (next-value n t k l (numbers n).zero (λ i q. sym (zero i q))))
 
 pub scale-requires-clause-denominators : goal.scale-requires-clause-denominators
 scale-requires-clause-denominators g c =
