@@ -4,7 +4,8 @@
 --   AllSoFar                     the parts on the first k stars
 --   none_of_all, more_of_all     no star, and one more
 --   all_of_all                   all stars
-use Rattle.std.proofs.Common.{◌≡◌, sym, ◌∙◌, ap, subst, subst₂, ℕ, ◌+◌, ◌<◌, inl, inr, refl, List, [], ◌++◌, length, get_or, map, Vec, Global, arith}
+--   dimensions_add_up            multiplicities times dimensions add up to the number of rows
+use Rattle.std.proofs.Common.{◌≡◌, sym, ◌∙◌, ap, subst, subst₂, ℕ, ◌+◌, ◌*◌, ◌<◌, inl, inr, refl, List, [], ◌++◌, length, get_or, map, Vec, Global, arith}
 use Rattle.std.proofs.lemmas.Bool.{cases_lt}
 use Rattle.std.proofs.lemmas.List.{get_or-map, map-append}
 use Rattle.irr_algebra.specs.Fin.{Fin, to_nat}
@@ -14,6 +15,7 @@ use Rattle.irr_number.specs.Number.{Number}
 use Rattle.irr_number.proofs.NumberField.{number_field}
 use Rattle.irr_rational.specs.Order.{IsBelow}
 use Rattle.irr_rational.proofs.Lexicographic.{below_irrefl}
+use Rattle.irr_theory.specs.Representations.{count_total}
 use Rattle.irr_theory.proofs.Existence.{dimension_exists}
 use Rattle.irr_space.specs.Operation.{WaveVector, wave_component}
 use Rattle.irr_seitz.specs.PhaseMeaning.{sign_of}
@@ -27,13 +29,14 @@ use Rattle.irr_kvec.specs.WaveMeaning.{wave_vector}
 use Rattle.irr_full.specs.Parts.{Part as FullPart, IsPartBefore, ArePartsOf}
 use Rattle.irr_full.specs.Stars.{Stars}
 use Rattle.irr_full.specs.StarParts.{StarLists, star_part}
-use Rattle.irr_full.proofs.PartsAddUp.{same_representative}
+use Rattle.irr_full.proofs.PartsAddUp.{parts_add_up, same_representative}
 use Rattle.irr_full.proofs.PartsOfStars.{parts_of_stars, star_multiplicity}
 use Rattle.irr_mult.specs.declared.part.Part.{Part}
 use Rattle.irr_mult.specs.declared.star.StarCharacters.{StarCharacters}
 use Rattle.irr_mult.specs.Listing.{item, IsListing}
 use Rattle.irr_mult.specs.StarParts.{ArePushed, HasCharacters, IsPartRow, listed_part, part_of}
 use Rattle.irr_mult.specs.Traced.{AreTraced, SpaceRepresentation, star_on, traces_at}
+use Rattle.irr_mult.proofs.LittleLists.{is_full}
 use Rattle.irr_mult.proofs.Listings.{item-read, listing-along, listing-append, listing-none}
 
 module _ {S : Type 0} (order : S → ℕ) (value : (n : ℕ) → S → Number n) (A : SpaceRepresentation)
@@ -182,6 +185,14 @@ module _ {S : Type 0} (order : S → ℕ) (value : (n : ℕ) → S → Number n)
             (found.0, h.is found.0 ∙ ap part_at found.1);
         ordered = λ u v l. subst₂ IsPartBefore (sym (h.is u)) (sym (h.is v)) (h.ordered u v l);
       })
+
+  pub dimensions_add_up : {n : ℕ} (parts : Fin n → FullPart) → ArePartsOf (sign_of A.group.phase) (stands_for A.group) A.positive A.at parts
+      → count_total n (λ i. (parts i).mult * (parts i).dim) ≡ A.size
+  dimensions_add_up parts are = parts_add_up (stands_for A.group) (space_group A.group).is_group (has_canonical A.group)
+      (sign_of A.group.phase) A.order A.positive A.at A.is_representation A.has_diagonal stars_of
+      (λ i. (t.star i).has.characters.list)
+      (λ i. is_full A.group (star_on (t.star i).has.star) (t.star i).has.characters.list (t.star i).has.complete)
+      (λ i. (t.star i).has.ordered) (λ i. (t.star i).representative) parts are
 
   -- what the program reads at the place k
   module _ (k : ℕ) (l : k < length stars) (x : StarCharacters S) (is : x ≡ get_or stars k x) (v : Vec S Global)

@@ -15,3 +15,4 @@ pub mod SamePlaces
 pub mod CharactersAt
 pub mod Chosen
 pub mod ClassParts
+pub mod LittleLists

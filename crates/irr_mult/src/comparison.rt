@@ -40,7 +40,7 @@ pub(crate) fn is_below(a: &Wave, b: &Wave) -> bool
 }
 
 /// Whether two wave vectors are equal.
-pub(crate) fn is_same(a: &Wave, b: &Wave) -> bool
+pub fn is_same(a: &Wave, b: &Wave) -> bool
     ensures { IsTrue result ↔ (wave_vector a.now ≡ wave_vector b.now) }
 {
     match compare(a, b) {

@@ -16,6 +16,7 @@ mod stars;
 pub use characters::{
     characters_at, complete_list, little_table, small_characters, star_characters,
 };
+pub use comparison::is_same;
 pub use dimension::multiplicity;
 pub use equivalents::places_of;
 pub use error::WorkError;

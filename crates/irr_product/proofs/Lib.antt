@@ -8,16 +8,11 @@ pub mod KroneckerClasses
 pub mod KroneckerLists
 pub mod KroneckerParts
 pub mod OrderSizes
-pub mod EachItems
-pub mod SideLists
-pub mod LiftedTraces
 pub mod RowItems
-pub mod LittleOperations
 pub mod PairRows
 pub mod WaveSums
 pub mod SumLists
 pub mod ArmSums
-pub mod MemberSizes
 pub mod MeetingRows
 pub mod PairEntries
 pub mod WholeProducts

@@ -35,13 +35,13 @@ use Rattle.irr_mult.specs.Traced.{AreStarCharacters, star_on, traces_at}
 use Rattle.irr_mult.specs.declared.star.StarCharacters.{StarCharacters}
 use Rattle.irr_mult.proofs.Listings.{item-get}
 use Rattle.irr_mult.proofs.StarFacts.{some_operation}
-use Rattle.irr_product.specs.ArmTraces.{AreArmRows, AreMembers, AreTables, HasMembers}
+use Rattle.irr_side.specs.ArmTraces.{AreArmRows, AreMembers, AreTables, HasMembers}
 use Rattle.irr_product.specs.Meetings.{IsOverOrder}
-use Rattle.irr_product.specs.Sides.{IsSideOf}
-use Rattle.irr_product.specs.declared.sides.Side.{Side}
-use Rattle.irr_product.proofs.LittleOperations.{same_count, same_operations}
+use Rattle.irr_side.specs.Sides.{IsSideOf}
+use Rattle.irr_side.specs.declared.sides.Side.{Side}
+use Rattle.irr_side.proofs.LittleOperations.{same_count, same_operations}
 use Rattle.irr_product.proofs.RowItems.{row_of_each}
-use Rattle.irr_product.proofs.SideLists.{some_item}
+use Rattle.irr_side.proofs.SideLists.{some_item}
 
 module _ {X : Type 0} {V : Ghosts X} (group : Group) (M : ℕ) (ops : List Op) (members : AreMembers group ops) where
   pub has_members : (full : Full X V) → IsOverOrder group M full → HasMembers M ops full

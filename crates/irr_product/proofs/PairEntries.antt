@@ -47,19 +47,20 @@ use Rattle.irr_mult.specs.Listing.{IsListing, item}
 use Rattle.irr_mult.specs.OrderedWaves.{waves_of}
 use Rattle.irr_mult.specs.Traced.{AreStarCharacters, AreTraced, SpaceRepresentation, traces_at}
 use Rattle.irr_mult.specs.declared.star.StarCharacters.{StarCharacters}
+use Rattle.irr_mult.proofs.AllListings.{dimensions_add_up}
 use Rattle.irr_mult.proofs.Listings.{item-get}
 use Rattle.irr_product.specs.ClassRows.{ClassRows, class_sum}
 use Rattle.irr_product.specs.Meetings.{AreEntries, ArePairRows, HasPairRows, HasSums, IsEntry, IsMeeting, IsPairRow, Setting}
-use Rattle.irr_product.specs.Sides.{IsSideOf}
+use Rattle.irr_side.specs.Sides.{IsSideOf}
 use Rattle.irr_product.specs.declared.meetings.Meeting.{Meeting}
-use Rattle.irr_product.specs.declared.sides.Side.{Side}
-use Rattle.irr_product.proofs.EachItems.{each_more, each_none}
+use Rattle.irr_side.specs.declared.sides.Side.{Side}
+use Rattle.irr_side.proofs.EachItems.{each_more, each_none}
 use Rattle.irr_product.proofs.KroneckerClasses.{product_representation}
 use Rattle.irr_product.proofs.KroneckerParts.{product_traced}
-use Rattle.irr_product.proofs.MemberSizes.{few_rows}
+use Rattle.irr_side.proofs.MemberSizes.{few_rows}
 use Rattle.irr_product.proofs.MeetingRows.{member_count, member_inside, member_row, member_small}
 use Rattle.irr_product.proofs.PairRows.{class_rows, classes_here, row_at_star}
-use Rattle.irr_product.proofs.SideLists.{some_item}
+use Rattle.irr_side.proofs.SideLists.{some_item}
 
 -- a listing of numbers of equally many places
 listing_moved : {n h : ℕ} (e : n ≡ h) (P : Fin n → Type 0) (Q : Fin h → Type 0)
@@ -295,24 +296,33 @@ module _ {X : Type 0} {V : Ghosts X} {group : Group} {k l : WaveVector} {M : ℕ
           (subst₂ (λ x y. ArePairRows V.order_of V.value M x y stars ts rows) (sym is_m) (sym is_n) are),
     )
 
-  pub entry_of_rows : (rows : List (Vec X Global)) → ArePairRows V.order_of V.value M a b stars ts rows → (p : PairParts)
+  pub entry_of_rows : 0 < M → (rows : List (Vec X Global)) → ArePairRows V.order_of V.value M a b stars ts rows → (p : PairParts)
       → ((A : SpaceRepresentation) → AreTraced V.order_of V.value A stars rows
       → ArePartsOf (sign_of A.group.phase) (stands_for A.group) A.positive A.at (item (map part_of p.parts.items)))
       → p.a ≡ suc a → p.b ≡ suc b
       → ((m : Fin s.given.left.list.count) (n : Fin s.given.right.list.count) → to_nat m ≡ a → to_nat n ≡ b
       → p.dim ≡ times s.given.left.star.arms (s.given.left.list.size m) * times s.given.right.star.arms (s.given.right.list.size n))
       → IsEntry M s.given.left s.given.right a b p
-  entry_of_rows rows are p parts first second dim = record {
+  entry_of_rows positive rows are p parts first second dim = record {
     is_pair = λ u v m n e f F full_F H full_H. record {
       first = first;
       second = second;
       dim = dim m n e f;
-      parts = λ positive. parts
-          (product_representation group s.given.left.star s.given.right.star M positive u v
+      parts = λ above. parts
+          (product_representation group s.given.left.star s.given.right.star M above u v
           (over s.given.left.star.table M u (s.given.left.list.member m))
           (over s.given.right.star.table M v (s.given.right.list.member n)) F full_F H full_H)
-          (rows_traced s.given positive u v m n F full_F H full_H stars ts s rows
+          (rows_traced s.given above u v m n F full_F H full_H stars ts s rows
           (subst₂ (λ x y. ArePairRows V.order_of V.value M x y stars ts rows) (sym e) (sym f) are));
+      adds_up =
+          let A = product_representation group s.given.left.star s.given.right.star M positive u v
+          (over s.given.left.star.table M u (s.given.left.list.member m))
+          (over s.given.right.star.table M v (s.given.right.list.member n)) F full_F H full_H in
+          let t = rows_traced s.given positive u v m n F full_F H full_H stars ts s rows
+          (subst₂ (λ x y. ArePairRows V.order_of V.value M x y stars ts rows) (sym e) (sym f) are) in
+          dimensions_add_up V.order_of V.value A stars rows t (item (map part_of p.parts.items)) (parts A t)
+          ∙ times-mul (times s.given.left.star.arms (s.given.left.list.size m)) (times s.given.right.star.arms (s.given.right.list.size n))
+          ∙ sym (dim m n e f);
     };
   }
 

@@ -10,7 +10,7 @@ use native.Mathlib.Nat as Nat
 use Rattle.irr_kvec.specs.declared.wave.Wave.{Wave}
 use Rattle.irr_close.specs.declared.group.Group.{Group}
 use Rattle.irr_little.specs.declared.arms.Arm.{Arm}
-use Rattle.irr_product.specs.ArmTraces.{AreEach}
+use Rattle.irr_side.specs.ArmTraces.{AreEach}
 use Rattle.irr_product.specs.Sums.{AreRowSums, AreSums, IsSumOf}
 
 pub record AreFirstSums (group : Group) (left right : List Arm) (k : ℕ) (ws : List Wave) : Type 0 where

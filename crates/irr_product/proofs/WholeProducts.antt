@@ -1,21 +1,19 @@
 -- The stars of the sums of arms, and the whole product.
 --   sums_limits, sums_reduced, sums_orders, few_sums     the sums
 --   over_order                   the full representations of a side
---   stars_limits, stars_reduced, stars_of_waves          the stars
 --   first_order, second_order    the orders of both wave vectors
 --   products_of_entries          the entries are the direct products
-use Rattle.std.proofs.Common.{◌≡◌, sym, ◌∙◌, ap, ap₂, subst, subst₂, refl, ℕ, suc, ◌+◌, ◌*◌, ◌^◌, ◌<◌, ◌≤◌, List, [], ◌∷◌, length, get_or, map, arith}
+use Rattle.std.proofs.Common.{◌≡◌, sym, ◌∙◌, ap, ap₂, subst, subst₂, refl, ℕ, ◌+◌, ◌*◌, ◌^◌, ◌<◌, ◌≤◌, List, length, get_or, map, arith}
 use Rattle.std.specs.Int.{◌∣◌}
 use Rattle.std.specs.List.{All}
-use Rattle.std.proofs.lemmas.List.{get_or-map, get_or_default, length-map}
+use Rattle.std.proofs.lemmas.List.{get_or-map, length-map}
 use native.Mathlib.Nat as Nat
 use Rattle.irr_algebra.specs.Fin.{Fin, to_nat}
-use Rattle.irr_algebra.specs.Matrix.{Matrix, ◌⊕◌}
+use Rattle.irr_algebra.specs.Matrix.{◌⊕◌}
 use Rattle.irr_algebra.specs.Pair.{times, pair}
 use Rattle.irr_algebra.proofs.Indices.{from_nat, to_nat-from_nat, to_nat-lt}
 use Rattle.irr_algebra.proofs.Pairs.{times-mul, to_nat-pair}
-use Rattle.irr_number.specs.Number.{numbers}
-use Rattle.irr_space.specs.Operation.{Operation, WaveVector}
+use Rattle.irr_space.specs.Operation.{WaveVector}
 use Rattle.irr_space.specs.Reciprocal.{AreEquivalent, IsOrder, IsReduced}
 use Rattle.irr_space.specs.CompleteList.{over}
 use Rattle.irr_seitz.specs.PhaseMeaning.{sign_of}
@@ -40,17 +38,17 @@ use Rattle.irr_mult.specs.StarSearch.{HasOrder, IsReducedIn}
 use Rattle.irr_mult.specs.Traced.{AreStarCharacters}
 use Rattle.irr_mult.specs.declared.part.PairParts.{PairParts}
 use Rattle.irr_mult.specs.declared.star.StarCharacters.{StarCharacters}
-use Rattle.irr_mult.proofs.Listings.{item-get}
 use Rattle.irr_product.specs.Meetings.{AreEntries, AreMeetings, HasSums, IsOverOrder, Setting}
 use Rattle.irr_product.specs.Products.{AreProducts, IsPairOf, IsPairOrder, pair_content}
-use Rattle.irr_product.specs.Sides.{IsSideOf}
+use Rattle.irr_side.specs.Sides.{IsSideOf}
 use Rattle.irr_product.specs.Sums.{AreSums, IsSumOf}
 use Rattle.irr_product.specs.declared.meetings.Meeting.{Meeting}
-use Rattle.irr_product.specs.declared.sides.Side.{Side}
+use Rattle.irr_side.specs.declared.sides.Side.{Side}
 use Rattle.irr_product.proofs.KroneckerPlaces.{pair_order}
 use Rattle.irr_product.proofs.PairOrders.{pair_order-first, pair_order-positive, pair_order-second}
 use Rattle.irr_product.proofs.ReciprocalTests.{decide_reciprocal}
-use Rattle.irr_product.proofs.SideLists.{some_item}
+use Rattle.irr_side.proofs.SideLists.{some_item}
+use Rattle.irr_side.proofs.StarsByWaves.{stars_of_waves}
 
 module _ {X : Type 0} {V : Ghosts X} {group : Group} {k l : WaveVector} {M : ℕ} {left right : Side X V} {sums : List Wave}
     (g : HasSums group k l M left right sums) where
@@ -124,38 +122,6 @@ over_order {X} {V} group {k} side A M divides n d below =
       same = is.same;
       divides = subst (λ z. z ∣ M) (sym is.order) divides;
     }
-
--- the stars, by their wave vectors
-module _ {X : Type 0} (group : Group) (ws : List WaveVector) (waves : List Wave) (stars : List (StarCharacters X))
-    (same : map (λ (c : StarCharacters X). c.wave) stars ≡ waves) where
-  along : (P : Wave → Type 0) → All P waves → All (λ (c : StarCharacters X). P c.wave) stars
-  along P all n c below = subst P (ap (λ xs. get_or xs n c.wave) (sym same) ∙ get_or-map (λ (c : StarCharacters X). c.wave) stars n c c.wave below)
-      (all n c.wave (subst (λ z. n < z) (sym (length-map stars (λ (c : StarCharacters X). c.wave)) ∙ ap length same) below))
-
-  pub stars_limits : All IsWithinLimits waves → All (λ (c : StarCharacters X). IsWithinLimits c.wave) stars
-  stars_limits = along IsWithinLimits
-
-  module _ (are : AreStarsOf (stands_for group) ws (waves_of waves)) where
-    waves_reduced : All (IsReducedIn group) waves
-    waves_reduced n d below =
-        let m : n < length (waves_of waves) = subst (λ z. n < z) (sym (length-map waves wave_vector)) below in
-        let i = from_nat (length (waves_of waves)) n m in
-        let star : item (waves_of waves) i ≡ wave_vector (get_or waves n d) =
-        item-get (waves_of waves) i (wave_vector d)
-        ∙ ap (λ z. get_or (waves_of waves) z (wave_vector d)) (to_nat-from_nat (length (waves_of waves)) n m)
-        ∙ get_or-map wave_vector waves n d (wave_vector d) below in
-        subst (λ (w : WaveVector). IsReduced (stands_for group) w w) star (are.representative i).reduced
-
-    pub stars_reduced : All (λ (c : StarCharacters X). IsReducedIn group c.wave) stars
-    stars_reduced = along (IsReducedIn group) waves_reduced
-
-    pub stars_of_waves : AreStarsOf (stands_for group) ws (map (λ (c : StarCharacters X). wave_vector c.wave) stars)
-    stars_of_waves = subst (AreStarsOf (stands_for group) ws) (ap waves_of (sym same) ∙ twice stars) are
-      where
-        twice : (xs : List (StarCharacters X)) → waves_of (map (λ (c : StarCharacters X). c.wave) xs)
-            ≡ map (λ (c : StarCharacters X). wave_vector c.wave) xs
-        twice [] = refl
-        twice (x ∷ xs) = ap (λ ys. wave_vector x.wave ∷ ys) (twice xs)
 
 -- the orders of both wave vectors
 module _ (group : Group) (k l : WaveVector) (n : ℕ) (o : IsPairOrder (stands_for group) k l n) (within : n ≤ 12000) where

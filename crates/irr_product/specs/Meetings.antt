@@ -6,6 +6,7 @@
 --   HasPairRows .. c t                 t has the rows of the members a and b of both lists at the star c
 --   IsPairRow .. c t row               row has the sums of their products
 --   ArePairRows .. stars ts rows       rows are so at the stars, in order
+--   AreSidesOf group k l M a b         the sides of two wave vectors whose pair has the order M
 --   HasSums .. sums                    two sides, over a multiple of their orders, and the sums of their arms
 --   Setting .. stars ts                these, with the stars of the sums and the meetings there
 --   IsEntry A B a b p                  p is the entry of the members a and b of the lists of two sides
@@ -42,13 +43,13 @@ use Rattle.irr_mult.specs.Stars.{AreStarsOf}
 use Rattle.irr_mult.specs.Traced.{AreStarCharacters}
 use Rattle.irr_mult.specs.declared.part.PairParts.{PairParts}
 use Rattle.irr_mult.specs.declared.star.StarCharacters.{StarCharacters}
-use Rattle.irr_product.specs.ArmTraces.{AreEach, AreMembers, AreTables}
+use Rattle.irr_side.specs.ArmTraces.{AreEach, AreMembers, AreTables}
 use Rattle.irr_product.specs.ClassRows.{ClassRows, class_sum}
-use Rattle.irr_product.specs.Products.{IsPairOf, pair_content}
-use Rattle.irr_product.specs.Sides.{IsSideOf}
+use Rattle.irr_product.specs.Products.{IsPairOf, IsPairOrder, pair_content}
+use Rattle.irr_side.specs.Sides.{IsSideOf}
 use Rattle.irr_product.specs.Sums.{AreSums}
 use Rattle.irr_product.specs.declared.meetings.Meeting.{Meeting}
-use Rattle.irr_product.specs.declared.sides.Side.{Side}
+use Rattle.irr_side.specs.declared.sides.Side.{Side}
 
 pub record IsOverOrder {X : Type 0} {V : Ghosts X} (group : Group) (M : ℕ) (full : Full X V) : Type 0 where
   pub induced : IsFullRepresentation full
@@ -90,6 +91,11 @@ abbrev pub ArePairRows : {X : Type 0} (order : X → ℕ) (value : (n : ℕ) →
 ArePairRows {X} order value M a b stars ts rows = AreEach
     (λ i (row : Vec X Global). (c : StarCharacters X) (t : Meeting X)
     → IsPairRow order value M a b (slice_index_or stars i c) (slice_index_or ts i t) row.items) (length stars) rows
+
+pub record AreSidesOf {X : Type 0} {V : Ghosts X} (group : Group) (k l : WaveVector) (M : ℕ) (first second : Side X V) : Type 0 where
+  pub left : IsSideOf group k first
+  pub right : IsSideOf group l second
+  pub order : IsPairOrder (stands_for group) k l M
 
 pub record HasSums {X : Type 0} {V : Ghosts X} (group : Group) (k l : WaveVector) (M : ℕ) (first second : Side X V)
     (ws : List Wave) : Type 0 where

@@ -3,7 +3,8 @@
 --   PairContent                 two labels, a number of rows, and parts
 --   pair_content p              what the program's value stands for
 --   IsPairOf s G M m n F H p    p is the entry of the members m and n of two lists: their labels, from 1, the product of the numbers
---                               of rows of their full representations F and H, and the parts of the direct product of these
+--                               of rows of their full representations F and H, and the parts of the direct product of these,
+--                               whose multiplicities times dimensions add up to that number
 --   AreProducts s G k l M ps    ps are the entries of all pairs of members of complete lists in canonical order at k and at l, in
 --                               the order (1,1), (1,2), .., with the full representations over the numbers of order M
 --   AreProductsAt group k l ps  so for the group of the program, over the order of the pair
@@ -14,7 +15,7 @@ use Rattle.irr_algebra.specs.Fin.{Fin, to_nat}
 use Rattle.irr_algebra.specs.Matrix.{Matrix}
 use Rattle.irr_algebra.specs.Pair.{times}
 use Rattle.irr_number.specs.Number.{numbers}
-use Rattle.irr_theory.specs.Representations.{Representations}
+use Rattle.irr_theory.specs.Representations.{Representations, count_total}
 use Rattle.irr_space.specs.Operation.{Operation, WaveVector}
 use Rattle.irr_space.specs.SpaceGroup.{IsExponent}
 use Rattle.irr_space.specs.Reciprocal.{Sign, IsOrder, IsPeriod}
@@ -62,6 +63,7 @@ pub record IsPairOf (s : Sign) (G : Operation → Type 0) (M : ℕ) {a b : ℕ} 
   pub second : p.second ≡ suc n
   pub dim : p.dim ≡ a * b
   pub parts : (positive : 0 < M) → ArePartsOf s G positive (kronecker F H) (item p.parts)
+  pub adds_up : count_total (length p.parts) (λ i. (item p.parts i).mult * (item p.parts i).dim) ≡ p.dim
 
 pub record AreProducts (s : Sign) (G : Operation → Type 0) (k l : WaveVector) (M : ℕ) (ps : List PairContent) : Type 0 where
   pub left : Star s G k

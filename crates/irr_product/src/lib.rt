@@ -6,12 +6,12 @@ mod orders;
 mod pairs;
 mod products;
 mod rows;
-mod sides;
 mod sums;
 mod text;
-mod traces;
 
 pub use irr_mult::{Memory, PairParts, Part, WorkError};
 pub use orders::pair_order;
 pub use products::product;
-pub use text::text_product;
+pub use rows::part_row;
+pub use sums::arm_sums;
+pub use text::{push_parts, text_product};

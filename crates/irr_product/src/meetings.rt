@@ -5,13 +5,12 @@ ghost use Rattle.irr_kvec.specs.Centrings.{IsWithinLimits};
 ghost use Rattle.irr_mult.specs.StarSearch.{IsReducedIn};
 ghost use Rattle.irr_product.specs.Meetings.{AreMeetings, IsMeeting, IsOverOrder};
 
-use crate::sides::Side;
-use crate::traces::{operations, tables};
 use irr_close::Group;
 use irr_cyc::{Lift, Order, Scalar};
 use irr_kvec::Wave;
 use irr_memory::Memory;
 use irr_mult::{StarCharacters, places_of};
+use irr_side::{Side, operations, tables};
 use std::alloc::Global;
 
 /// What direct products have at a star: the numbers of the sums of arms that are its wave vector, and for the full

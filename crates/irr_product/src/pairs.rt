@@ -9,10 +9,10 @@ ghost use Rattle.irr_product.specs.Meetings.{AreEntries, ArePairRows, HasPairRow
 
 use crate::meetings::Meeting;
 use crate::rows::part_row;
-use crate::sides::Side;
 use irr_cyc::{Lift, Order};
 use irr_memory::Memory;
 use irr_mult::{PairParts, StarCharacters, all_parts};
+use irr_side::Side;
 use std::alloc::Global;
 
 /// The entries of all pairs of members of two lists, in the order (1,1), (1,2), .. The error is want of memory.

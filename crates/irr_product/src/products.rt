@@ -6,18 +6,18 @@ ghost use Rattle.irr_cyc.specs.declared.orders.TheConstants.{ORDER_LIMIT};
 ghost use Rattle.irr_kvec.specs.Centrings.{IsWithinLimits};
 ghost use Rattle.irr_kvec.specs.WaveMeaning.{wave_vector};
 ghost use Rattle.irr_close.specs.StandsFor.{stands_for};
-ghost use Rattle.irr_product.specs.Meetings.{AreEntries, HasSums};
+ghost use Rattle.irr_product.specs.Meetings.{AreEntries, AreSidesOf, HasSums};
 ghost use Rattle.irr_product.specs.Products.{AreProducts, AreProductsAt, IsPairOrder, IsRefused, pair_content};
 
 use crate::meetings::meetings;
 use crate::orders::pair_order;
 use crate::pairs::pairs;
-use crate::sides::{Side, side_of};
 use crate::sums::arm_sums;
 use irr_close::Group;
 use irr_cyc::{Lift, Order};
 use irr_kvec::Wave;
-use irr_mult::{Memory, PairParts, WorkError, characters_at, representatives};
+use irr_mult::{Memory, PairParts, WorkError, characters_at, is_same, representatives};
+use irr_side::{Side, side_of};
 use std::alloc::Global;
 
 /// The direct products of the full representations at two wave vectors (Bradley and Cracknell, section 4.7): for each
@@ -59,11 +59,32 @@ fn products_at<S: Lift>(
 {
     let order = Order::new(alloc, n)?;
     let left = side_of::<S>(alloc, group, k1)?;
+    if is_same(k1, k2) {
+        let squares = products_between(alloc, group, &order, &left, &left)?;
+        return Ok(squares);
+    }
     let right = side_of::<S>(alloc, group, k2)?;
+    let entries = products_between(alloc, group, &order, &left, &right)?;
+    Ok(entries)
+}
+
+// Those of two sides.
+fn products_between<S: Lift>(
+    alloc: Global,
+    group: &Group,
+    order: &Order,
+    left: &Side<S>,
+    right: &Side<S>,
+) -> Result<Vec<PairParts>, Memory>
+    requires { (k : WaveVector) × (l : WaveVector) × AreSidesOf group.now k l order.now.n left.now right.now }
+    ensures { (k l : WaveVector) → AreSidesOf group.now k l order.now.n left.now right.now
+        → IfOk result (λ pairs. AreProducts (sign_of group.now.phase) (stands_for group.now) k l order.now.n
+        (map pair_content pairs.items)) }
+{
     let arms = left.star.arms.as_slice();
     let others = right.star.arms.as_slice();
-    let sums = arm_sums(alloc, group, n, arms, others)?;
-    let entries = products_of(alloc, group, &order, &left, &right, sums.as_slice())?;
+    let sums = arm_sums(alloc, group, order.n(), arms, others)?;
+    let entries = products_of(alloc, group, order, left, right, sums.as_slice())?;
     Ok(entries)
 }
 

@@ -13,7 +13,7 @@ use std::alloc::Global;
 
 /// The row of sums of products: at each place, over the pairs of rows with these numbers, where the first of the rows with
 /// each of the others come first. The error is want of memory.
-pub(crate) fn part_row<S: Scalar>(
+pub fn part_row<S: Scalar>(
     alloc: Global,
     order: &Order,
     places: usize,

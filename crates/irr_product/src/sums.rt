@@ -16,7 +16,7 @@ use std::alloc::Global;
 
 /// The sums of the wave vectors of the arms of two stars, reduced: those of the first arm with each of the others, and
 /// so on. The denominators divide n. The error is want of memory.
-pub(crate) fn arm_sums(
+pub fn arm_sums(
     alloc: Global,
     group: &Group,
     n: u32,

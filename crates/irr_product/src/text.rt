@@ -63,8 +63,8 @@ fn push_pair(alloc: Global, text: &mut Vec<u8>, pair: &PairParts) -> Result<(), 
     Ok(())
 }
 
-// Appends the lines of parts.
-fn push_parts(alloc: Global, text: &mut Vec<u8>, parts: &[Part]) -> Result<(), Memory>
+/// Appends the lines of parts. The error is want of memory.
+pub fn push_parts(alloc: Global, text: &mut Vec<u8>, parts: &[Part]) -> Result<(), Memory>
     ensures { OnOk result (text.new.items ≡ text.old.items ++ flat_map part_line (map part_of parts.now)) }
 {
     for part in parts {

@@ -3,7 +3,7 @@ use Rattle.std.proofs.Common.{sym, subst₂, List}
 use Rattle.std.specs.List.{All}
 use Rattle.irr_seitz.specs.declared.op.Op.{Op}
 use Rattle.irr_star.specs.declared.full.Full.{Full}
-use Rattle.irr_product.specs.ArmTraces.{AreTables, HasMembers}
+use Rattle.irr_side.specs.ArmTraces.{AreTables, HasMembers}
 use Rattle.irr_product.proofs.MeetingRows.{all_members}
 use Rattle.irr_product.proofs.meetings.meeting_at.Goals as goal
 

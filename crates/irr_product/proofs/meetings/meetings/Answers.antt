@@ -3,10 +3,10 @@ use Rattle.std.proofs.Common.{rules, ◌≡◌, sym, subst, length, get_or}
 use Rattle.irr_kvec.specs.Centrings.{IsWithinLimits}
 use Rattle.irr_mult.specs.StarSearch.{IsReducedIn}
 use Rattle.irr_mult.specs.declared.star.StarCharacters.{StarCharacters}
-use Rattle.irr_product.specs.ArmTraces.{AreEach}
+use Rattle.irr_side.specs.ArmTraces.{AreEach}
 use Rattle.irr_product.specs.Meetings.{IsMeeting}
 use Rattle.irr_product.specs.declared.meetings.Meeting.{Meeting}
-use Rattle.irr_product.proofs.EachItems.{each_none, each_of_list}
+use Rattle.irr_side.proofs.EachItems.{each_none, each_of_list}
 use Rattle.irr_product.proofs.meetings.meetings.Goals as goal
 
 pub loop-star-init : goal.loop-star-init

@@ -1,7 +1,7 @@
 -- The meetings so far.
 use Rattle.std.proofs.Common.{get_or}
 use Rattle.irr_mult.specs.declared.star.StarCharacters.{StarCharacters}
-use Rattle.irr_product.specs.ArmTraces.{AreEach}
+use Rattle.irr_side.specs.ArmTraces.{AreEach}
 use Rattle.irr_product.specs.Meetings.{IsMeeting}
 use Rattle.irr_product.specs.declared.meetings.Meeting.{Meeting}
 use Rattle.irr_product.proofs.meetings.meetings.Given as goal

@@ -37,7 +37,7 @@ next : (n : ℕ) → n + 1 ≡ suc n
 next n = omega arith
 
 pub returns : goal.returns
-returns g c group k w sums s = entry_of_rows s c.args.a c.args.b c.as_slice.result.now
+returns g c group k w sums s = entry_of_rows s c.args.a c.args.b c.args.order.now.positive c.as_slice.result.now
     (subst (λ rows. ArePairRows g.S.Scalar.order_of g.S.Scalar.value c.args.order.now.n c.args.a c.args.b c.args.stars.now
     c.args.meetings.now rows) (sym c.as_slice.ensures.value) c.in_ok-traces.ensures)
     (record { a = c.args.a + 1; b = c.args.b + 1; dim = c.dim-rows.result * c.dim.result; parts = c.in_ok-parts.parts })

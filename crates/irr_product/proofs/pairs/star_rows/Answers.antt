@@ -2,10 +2,10 @@
 use Rattle.std.proofs.Common.{rules, ◌≡◌, ◌∙◌, sym, subst, subst₂, ◌<◌, length, get_or, Vec, Global}
 use Rattle.std.proofs.lemmas.List.{get_or_default}
 use Rattle.irr_mult.specs.declared.star.StarCharacters.{StarCharacters}
-use Rattle.irr_product.specs.ArmTraces.{AreEach}
+use Rattle.irr_side.specs.ArmTraces.{AreEach}
 use Rattle.irr_product.specs.Meetings.{HasPairRows, IsPairRow}
 use Rattle.irr_product.specs.declared.meetings.Meeting.{Meeting}
-use Rattle.irr_product.proofs.EachItems.{each_more, each_none}
+use Rattle.irr_side.proofs.EachItems.{each_more, each_none}
 use Rattle.irr_product.proofs.pairs.star_rows.Goals as goal
 
 pub loop-i-init : goal.loop-i-init

@@ -1,7 +1,7 @@
 -- The rows so far.
 use Rattle.std.proofs.Common.{get_or, Vec, Global}
 use Rattle.irr_mult.specs.declared.star.StarCharacters.{StarCharacters}
-use Rattle.irr_product.specs.ArmTraces.{AreEach}
+use Rattle.irr_side.specs.ArmTraces.{AreEach}
 use Rattle.irr_product.specs.Meetings.{IsPairRow}
 use Rattle.irr_product.specs.declared.meetings.Meeting.{Meeting}
 use Rattle.irr_product.proofs.pairs.star_rows.Given as goal

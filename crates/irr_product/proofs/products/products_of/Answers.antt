@@ -7,7 +7,8 @@ use Rattle.irr_mult.specs.OrderedWaves.{waves_of}
 use Rattle.irr_mult.specs.StarSearch.{HasOrder}
 use Rattle.irr_mult.specs.declared.star.StarCharacters.{StarCharacters}
 use Rattle.irr_mult.proofs.SearchedStars.{orders_of_stars}
-use Rattle.irr_product.proofs.WholeProducts.{few_sums, over_order, setting_of, stars_limits, stars_reduced, sums_limits, sums_orders}
+use Rattle.irr_side.proofs.StarsByWaves.{stars_limits, stars_reduced}
+use Rattle.irr_product.proofs.WholeProducts.{few_sums, over_order, setting_of, sums_limits, sums_orders}
 use Rattle.irr_product.proofs.WholeProducts.{sums_reduced}
 use Rattle.irr_product.proofs.products.products_of.Goals as goal
 

@@ -2,7 +2,7 @@
 use Rattle.std.proofs.Common.{rules, ◌≡◌, ◌∙◌, sym, subst, ◌<◌}
 use Rattle.irr_algebra.specs.Fin.{Fin, to_nat}
 use Rattle.irr_product.specs.ClassRows.{ClassRows, class_sum}
-use Rattle.irr_product.proofs.EachItems.{each_more, each_none}
+use Rattle.irr_side.proofs.EachItems.{each_more, each_none}
 use Rattle.irr_product.proofs.RowItems.{row_of_each}
 use Rattle.irr_product.proofs.rows.part_row.Goals as goal
 

@@ -1,7 +1,7 @@
 -- The sums so far.
 use Rattle.std.proofs.Common.{◌≡◌}
 use Rattle.irr_algebra.specs.Fin.{Fin, to_nat}
-use Rattle.irr_product.specs.ArmTraces.{AreEach}
+use Rattle.irr_side.specs.ArmTraces.{AreEach}
 use Rattle.irr_product.specs.ClassRows.{ClassRows, class_sum}
 use Rattle.irr_product.proofs.rows.part_row.Given as goal
 

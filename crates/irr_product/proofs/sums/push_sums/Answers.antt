@@ -3,7 +3,7 @@ use Rattle.std.proofs.Common.{◌≡◌, sym, ◌∙◌, ap, subst, refl, ◌≤
 use Rattle.irr_kvec.specs.declared.wave.Wave.{Wave}
 use Rattle.irr_little.specs.declared.arms.Arm.{Arm}
 use Rattle.irr_product.specs.Sums.{IsSumOf, IsSummand}
-use Rattle.irr_product.proofs.EachItems.{each_none, each_of_list}
+use Rattle.irr_side.proofs.EachItems.{each_none, each_of_list}
 use Rattle.irr_product.proofs.SumLists.{row_of_each}
 use Rattle.irr_product.proofs.sums.push_sums.Goals as goal
 

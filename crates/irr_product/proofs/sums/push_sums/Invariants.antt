@@ -2,7 +2,7 @@
 use Rattle.std.proofs.Common.{◌≡◌, List, ◌++◌, get_or}
 use Rattle.irr_kvec.specs.declared.wave.Wave.{Wave}
 use Rattle.irr_little.specs.declared.arms.Arm.{Arm}
-use Rattle.irr_product.specs.ArmTraces.{AreEach}
+use Rattle.irr_side.specs.ArmTraces.{AreEach}
 use Rattle.irr_product.specs.Sums.{IsSumOf}
 use Rattle.irr_product.proofs.sums.push_sums.Given as goal
 
