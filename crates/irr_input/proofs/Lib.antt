@@ -1,4 +1,5 @@
 pub mod WaveTexts
+pub mod PointTexts
 pub mod FormSteps
 pub mod WordForms
 pub mod SkippedLines

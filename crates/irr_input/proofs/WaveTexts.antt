@@ -1,7 +1,7 @@
 -- Texts of wave vectors.
+--   component-is           the components of what is read
 --   text-of_read           what is read with no fault is what the text writes
 --   no_fault-text          a text that has a fault writes none
---   numeral_or_wave        digits alone write none
 --   zero_wave, zero-text   0,0,0 writes one
 use Rattle.std.proofs.Common.{◌≡◌, refl, sym, ◌∙◌, subst, ℕ, ◌≤◌, pos, Bool, true, false, List, [], ◌∷◌, ◌++◌, Option, None, Some, append-nil, append_assoc, inl, inr, lit≤, ◌+◌, arith}
 use Rattle.std.specs.Prelude.{codes}
@@ -38,11 +38,11 @@ no_fault-text text (Range p) k f h = elim (f.1 h.wave h.spells).1 [ inl b ↦ be
 
 -- readings
 
-component-is : (k : Wave) (i : Fin 3) → wave_component (wave_vector k) i ≡ ratio (entry k.num i) k.den
+pub component-is : (k : Wave) (i : Fin 3) → wave_component (wave_vector k) i ≡ ratio (entry k.num i) k.den
 unfolding wave_component wave_of ratios
 component-is k i = refl
 
-pub text-of_read : (text : List ℕ) (k : Wave) → IsWave text → ((w : WrittenWave) → IsSpelling w text → IsWritten 100000 w (wave_vector k)) → k.den ≤ 100000 → IsTextOf text (wave_vector k)
+abbrev pub text-of_read : (text : List ℕ) (k : Wave) → IsWave text → ((w : WrittenWave) → IsSpelling w text → IsWritten 100000 w (wave_vector k)) → k.den ≤ 100000 → IsTextOf text (wave_vector k)
 text-of_read text k h read within = let written = read h.wave h.spells in record {
   wave = h.wave;
   spells = h.spells;
@@ -58,31 +58,18 @@ text-of_read text k h read within = let written = read h.wave h.spells in record
   };
 }
 
--- digits alone write none
-
-pub numeral_or_wave : (word : List ℕ) (k : WaveVector) → IsNumeral 10 word → IsTextOf word k → ⊥
-numeral_or_wave word k is h = other_tokens h.wave.x.sign h.wave.x.denominator
-    (spelled_once 0 (number (record { place = 0; digits = word }) ∷ []) (wave_tokens h.wave) word tt (apart_wave h.wave)
-    (is, refl, record { blanks = []; rest = []; are_blanks = tt; joins = sym (append-nil word); is_rest = refl }) h.spells.spelled)
-  where
-    other_tokens : (s : Option Bool) (d : Option PlacedNumber)
-        → number (record { place = 0; digits = word }) ∷ [] ≡ (sign_tokens s ++ (number h.wave.x.numerator ∷ over_tokens d)) ++ (mark 44 ∷ (quotient_tokens h.wave.y ++ (mark 44 ∷ quotient_tokens h.wave.z))) → ⊥
-    other_tokens None None e = cc
-    other_tokens None (Some d) e = cc
-    other_tokens (Some b) d e = cc
-
 -- 0,0,0
 
-abbrev zero_at : ℕ → WrittenQuotient
+abbrev pub zero_at : ℕ → WrittenQuotient
 zero_at p = record { sign = None; numerator = record { place = p; digits = 48 ∷ [] }; denominator = None }
 
-abbrev zeros : WrittenWave
+abbrev pub zeros : WrittenWave
 zeros = record { x = zero_at 0; y = zero_at 2; z = zero_at 4 }
 
-pub zero_wave : Wave
+unfoldable pub zero_wave : Wave
 zero_wave = record { num = pos 0 ∷ pos 0 ∷ pos 0 ∷ []; den = 1; lowest = record { positive = omega arith; lowest = λ d v w. Nat.eq-one_of_dvd-one v } }
 
-zero-component : (i : Fin 3) → wave_component (wave_vector zero_wave) i ≡ ratio (pos 0) 1
+pub zero-component : (i : Fin 3) → wave_component (wave_vector zero_wave) i ≡ ratio (pos 0) 1
 unfolding zero_wave wave_component wave_of ratios to_nat
 zero-component first = refl
 zero-component (next first) = refl
@@ -95,12 +82,12 @@ behind_digit p text ts h = ((omega arith, (omega arith, tt)), refl, record { bla
 behind_comma : (p : ℕ) (text : List ℕ) (ts : List Token) → AreSpelled (p + 1 + 0) ts text → AreSpelled p (mark 44 ∷ ts) (44 ∷ text)
 behind_comma p text ts h = (refl, record { blanks = []; rest = text; are_blanks = tt; joins = refl; is_rest = h })
 
-zero_spelled : AreSpelled 0 (wave_tokens zeros) (codes "0,0,0")
+pub zero_spelled : AreSpelled 0 (wave_tokens zeros) (codes "0,0,0")
 zero_spelled = behind_digit 0 (codes ",0,0") (mark 44 ∷ number (zero_at 2).numerator ∷ mark 44 ∷ number (zero_at 4).numerator ∷ [])
     (behind_comma 1 (codes "0,0") (number (zero_at 2).numerator ∷ mark 44 ∷ number (zero_at 4).numerator ∷ [])
     (behind_digit 2 (codes ",0") (mark 44 ∷ number (zero_at 4).numerator ∷ []) (behind_comma 3 (codes "0") (number (zero_at 4).numerator ∷ []) (behind_digit 4 [] [] refl))))
 
-pub zero-text : IsTextOf (codes "0,0,0") (wave_vector zero_wave)
+abbrev pub zero-text : IsTextOf (codes "0,0,0") (wave_vector zero_wave)
 zero-text = record {
   wave = zeros;
   spells = record { spelled = zero_spelled; no_blank = λ e. cc };

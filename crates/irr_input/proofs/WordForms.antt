@@ -16,22 +16,28 @@ use Rattle.irr_grammar.specs.ShapePlace.{BeginsIn, IsShapePlace}
 use Rattle.irr_grammar.proofs.ShapePlaces.{place_unique, place-same}
 use Rattle.irr_kvec.specs.declared.wave.Wave.{Wave}
 use Rattle.irr_kvec.specs.WaveMeaning.{wave_vector}
+use Rattle.irr_rat.specs.VectorMeaning.{vector}
+use Rattle.irr_input.specs.declared.form.Form.TheVariants.{Rank1, Rank2, Rank3, Rank4, Sym2, Anti2}
+use Rattle.irr_input.specs.declared.form.Form.{Form as TensorForm}
 use Rattle.irr_input.specs.declared.words.Command.{Command}
 use Rattle.irr_input.specs.declared.words.Command.TheVariants as commands
 use Rattle.irr_input.specs.declared.verb.Verb.{Verb}
-use Rattle.irr_input.specs.declared.verb.Verb.TheVariants.{Star, Small, Full, Real, Product, Subduce, Compat, Check, Gen}
-use Rattle.irr_input.specs.Command.{Argument, IsWordOf, AreWordsOf, verb_of, arguments_of, verb_word, AreWords, IsCommand, AreOneCommand, IsFaulty}
-use Rattle.irr_input.specs.Command.Argument.{wave, number}
+use Rattle.irr_input.specs.declared.verb.Verb.TheVariants.{Star, Small, Full, Real, Product, Subduce, Compat, Square, Tensor, Site, Check, Gen}
+use Rattle.irr_input.specs.Command.{Argument, IsWordOf, AreWordsOf, form_word, verb_of, arguments_of, verb_word, AreWords, IsCommand, AreOneCommand, IsFaulty}
+use Rattle.irr_input.specs.Command.Argument.{wave, point, form, number}
 use Rattle.irr_input.specs.Forms.{Sort, IsOfSort, Form, IsOfForm, one_wave, two_waves, form_of, IsRefused, IsRefusedFrom}
-use Rattle.irr_input.specs.Forms.Sort.{of_waves, of_numbers}
+use Rattle.irr_input.specs.Forms.Sort.{of_waves, of_points, of_forms, of_numbers}
 use Rattle.irr_input.specs.Forms.Form.{no_more, one_more, perhaps}
 use Rattle.irr_kvec.proofs.OneWave.{wave_unique}
-use Rattle.irr_input.proofs.WaveTexts.{zero_wave, zero-text, numeral_or_wave}
+use Rattle.irr_input.proofs.WaveTexts.{zero_wave, zero-text}
+use Rattle.irr_input.proofs.PointTexts.{point_unique, zero_point, zero_point-text}
 
 -- forms
 
 word_of : (s : Sort) → (w : List ℕ) × IsOfSort s w
 word_of of_waves = (codes "0,0,0", (zero_wave, zero-text))
+word_of of_points = (codes "0,0,0", (zero_point, zero_point-text))
+word_of of_forms = (codes "1", (Rank1, refl))
 word_of of_numbers = (codes "0", (0, ((omega arith, (omega arith, tt)), refl, omega arith)))
 
 words_of : (f : Form) → (ws : List (List ℕ)) × IsOfForm f ws
@@ -95,7 +101,8 @@ verb_named : List ℕ → Option Verb
 verb_named w = if same w (codes "star") then Some Star else (if same w (codes "small") then Some Small else (if same w (codes "full") then Some Full
     else (if same w (codes "real") then Some Real
     else (if same w (codes "product") then Some Product else (if same w (codes "subduce") then Some Subduce else (if same w (codes "compat") then Some Compat
-    else (if same w (codes "check") then Some Check else (if same w (codes "gen") then Some Gen else None))))))))
+    else (if same w (codes "square") then Some Square else (if same w (codes "tensor") then Some Tensor else (if same w (codes "site") then Some Site
+    else (if same w (codes "check") then Some Check else (if same w (codes "gen") then Some Gen else None)))))))))))
 
 named : (v : Verb) → verb_named (verb_word v) ≡ Some v
 unfolding verb_named same
@@ -106,6 +113,9 @@ named Real = refl
 named Product = refl
 named Subduce = refl
 named Compat = refl
+named Square = refl
+named Tensor = refl
+named Site = refl
 named Check = refl
 named Gen = refl
 
@@ -154,6 +164,9 @@ form-of (commands.Compat k l None) = form-wave k (one_more of_waves (perhaps of_
     (form-wave l (perhaps of_waves no_more) [] (form-end of_waves no_more))
 form-of (commands.Compat k l (Some m)) = form-wave k (one_more of_waves (perhaps of_waves no_more)) (wave (wave_vector l) ∷ wave (wave_vector m) ∷ [])
     (form-wave l (perhaps of_waves no_more) (wave (wave_vector m) ∷ []) (form-perhaps of_waves no_more (wave (wave_vector m)) [] (λ w h. (m, h)) form-none))
+form-of (commands.Square k) = form-wave k no_more [] form-none
+form-of (commands.Tensor f) = form-more of_forms no_more (form f) [] (λ w h. (f, h)) form-none
+form-of (commands.Site x k) = form-more of_points one_wave (point (vector x)) (wave (wave_vector k) ∷ []) (λ w h. (x, h)) (form-wave k no_more [] form-none)
 form-of commands.Check = form-none
 form-of (commands.Gen n) = form-more of_numbers no_more (number n) [] (λ w h. (n, h)) form-none
 
@@ -187,6 +200,12 @@ of_form Compat (w ∷ []) h = absurd h.1
 of_form Compat (w ∷ x ∷ []) h = record { command = commands.Compat h.0.0 h.1.0.0 None; verb = refl; arguments = (h.0.1, (h.1.0.1, tt)) }
 of_form Compat (w ∷ x ∷ y ∷ []) h = record { command = commands.Compat h.0.0 h.1.0.0 (Some h.1.1.0.0); verb = refl; arguments = (h.0.1, (h.1.0.1, (h.1.1.0.1, tt))) }
 of_form Compat (w ∷ x ∷ y ∷ z ∷ ws) h = absurd h.1.1.1
+of_form Square ws h = let r = of_one ws h in record { command = commands.Square r.0; verb = refl; arguments = r.1 }
+of_form Tensor [] h = absurd h
+of_form Tensor (w ∷ []) h = record { command = commands.Tensor h.0.0; verb = refl; arguments = (h.0.1, tt) }
+of_form Tensor (w ∷ x ∷ ws) h = absurd h.1
+of_form Site [] h = absurd h
+of_form Site (w ∷ ws) h = let r = of_one ws h.1 in record { command = commands.Site h.0.0 r.0; verb = refl; arguments = (h.0.1, r.1) }
 of_form Check [] h = record { command = commands.Check; verb = refl; arguments = tt }
 of_form Check (w ∷ ws) h = absurd h
 of_form Gen [] h = absurd h
@@ -263,29 +282,101 @@ faulty-behind v first ws n e r = subst (λ w. IsFaulty IsCommand (w ∷ ws) n) (
 
 -- one command, and one faulty word
 
-argument_unique : (a b : Argument) (w : List ℕ) → IsWordOf a w → IsWordOf b w → a ≡ b
-argument_unique (wave k) (wave l) w h g = ap wave (wave_unique w k l h g)
-argument_unique (wave k) (number n) w h g = absurd (numeral_or_wave w k g.0 h)
-argument_unique (number m) (wave l) w h g = absurd (numeral_or_wave w l h.0 g)
-argument_unique (number m) (number n) w h g = ap number (sym h.1 ∙ g.1)
+sort_of : Argument → Sort
+sort_of (wave k) = of_waves
+sort_of (point x) = of_points
+sort_of (form f) = of_forms
+sort_of (number n) = of_numbers
 
-arguments_unique : (xs ys : List Argument) (ws : List (List ℕ)) → AreWordsOf xs ws → AreWordsOf ys ws → xs ≡ ys
-arguments_unique [] [] ws h g = refl
-arguments_unique [] (b ∷ ys) [] h g = absurd g
-arguments_unique [] (b ∷ ys) (w ∷ ws) h g = absurd h
-arguments_unique (a ∷ xs) [] [] h g = absurd h
-arguments_unique (a ∷ xs) [] (w ∷ ws) h g = absurd g
-arguments_unique (a ∷ xs) (b ∷ ys) [] h g = absurd h
-arguments_unique (a ∷ xs) (b ∷ ys) (w ∷ ws) h g = ap₂ (λ (x : Argument) (xs : List Argument). x ∷ xs) (argument_unique a b w h.0 g.0) (arguments_unique xs ys ws h.1 g.1)
+form_named : List ℕ → Option TensorForm
+form_named w = if same w (codes "1") then Some Rank1 else (if same w (codes "2") then Some Rank2 else (if same w (codes "3") then Some Rank3
+    else (if same w (codes "4") then Some Rank4 else (if same w (codes "sym2") then Some Sym2 else (if same w (codes "anti2") then Some Anti2 else None)))))
+
+form_read : (f : TensorForm) → form_named (form_word f) ≡ Some f
+unfolding form_named same
+form_read Rank1 = refl
+form_read Rank2 = refl
+form_read Rank3 = refl
+form_read Rank4 = refl
+form_read Sym2 = refl
+form_read Anti2 = refl
+
+some_form : (f g : TensorForm) → Some f ≡ Some g → f ≡ g
+some_form f g e = cc
+
+form_unique : (f g : TensorForm) → form_word f ≡ form_word g → f ≡ g
+form_unique f g e = some_form f g (sym (form_read f) ∙ ap form_named e ∙ form_read g)
+
+-- a word writes one argument of each sort
+argument_unique : (s : Sort) (a b : Argument) (w : List ℕ) → sort_of a ≡ s → sort_of b ≡ s → IsWordOf a w → IsWordOf b w → a ≡ b
+unfolding sort_of
+argument_unique s (wave k) (wave l) w p q h g = ap wave (wave_unique w k l h g)
+argument_unique s (wave k) (point y) w p q h g = absurd (cc (p, q))
+argument_unique s (wave k) (form f) w p q h g = absurd (cc (p, q))
+argument_unique s (wave k) (number n) w p q h g = absurd (cc (p, q))
+argument_unique s (point x) (wave l) w p q h g = absurd (cc (p, q))
+argument_unique s (point x) (point y) w p q h g = ap point (point_unique w x y h g)
+argument_unique s (point x) (form f) w p q h g = absurd (cc (p, q))
+argument_unique s (point x) (number n) w p q h g = absurd (cc (p, q))
+argument_unique s (form f) (wave l) w p q h g = absurd (cc (p, q))
+argument_unique s (form f) (point y) w p q h g = absurd (cc (p, q))
+argument_unique s (form f) (form g) w p q h k = ap form (form_unique f g (sym h ∙ k))
+argument_unique s (form f) (number n) w p q h g = absurd (cc (p, q))
+argument_unique s (number m) (wave l) w p q h g = absurd (cc (p, q))
+argument_unique s (number m) (point y) w p q h g = absurd (cc (p, q))
+argument_unique s (number m) (form f) w p q h g = absurd (cc (p, q))
+argument_unique s (number m) (number n) w p q h g = ap number (sym h.1 ∙ g.1)
+
+-- arguments of the sorts of a form
+AreOfForm : Form → List Argument → Type 0
+AreOfForm no_more [] = Unit {0}
+AreOfForm no_more (a ∷ args) = ⊥
+AreOfForm (one_more s f) [] = ⊥
+AreOfForm (one_more s f) (a ∷ args) = (sort_of a ≡ s) × AreOfForm f args
+AreOfForm (perhaps s f) [] = Unit {0}
+AreOfForm (perhaps s f) (a ∷ args) = (sort_of a ≡ s) × AreOfForm f args
+
+are_of_form : (c : Command) → AreOfForm (form_of (verb_of c)) (arguments_of c)
+unfolding AreOfForm sort_of
+are_of_form (commands.Star k) = (refl, tt)
+are_of_form (commands.Small k) = (refl, tt)
+are_of_form (commands.Full k) = (refl, tt)
+are_of_form (commands.Real k) = (refl, tt)
+are_of_form (commands.Product k l) = (refl, (refl, tt))
+are_of_form (commands.Subduce k) = (refl, tt)
+are_of_form (commands.Compat k l None) = (refl, (refl, tt))
+are_of_form (commands.Compat k l (Some m)) = (refl, (refl, (refl, tt)))
+are_of_form (commands.Square k) = (refl, tt)
+are_of_form (commands.Tensor f) = (refl, tt)
+are_of_form (commands.Site x k) = (refl, (refl, tt))
+are_of_form commands.Check = tt
+are_of_form (commands.Gen n) = (refl, tt)
+
+arguments_unique : (f : Form) (xs ys : List Argument) (ws : List (List ℕ)) → AreOfForm f xs → AreOfForm f ys → AreWordsOf xs ws → AreWordsOf ys ws → xs ≡ ys
+unfolding AreOfForm
+arguments_unique f [] [] ws p q h g = refl
+arguments_unique f [] (b ∷ ys) [] p q h g = absurd g
+arguments_unique f [] (b ∷ ys) (w ∷ ws) p q h g = absurd h
+arguments_unique f (a ∷ xs) [] [] p q h g = absurd h
+arguments_unique f (a ∷ xs) [] (w ∷ ws) p q h g = absurd g
+arguments_unique f (a ∷ xs) (b ∷ ys) [] p q h g = absurd h
+arguments_unique no_more (a ∷ xs) (b ∷ ys) (w ∷ ws) p q h g = absurd p
+arguments_unique (one_more s f) (a ∷ xs) (b ∷ ys) (w ∷ ws) p q h g =
+    ap₂ (λ (x : Argument) (xs : List Argument). x ∷ xs) (argument_unique s a b w p.0 q.0 h.0 g.0) (arguments_unique f xs ys ws p.1 q.1 h.1 g.1)
+arguments_unique (perhaps s f) (a ∷ xs) (b ∷ ys) (w ∷ ws) p q h g =
+    ap₂ (λ (x : Argument) (xs : List Argument). x ∷ xs) (argument_unique s a b w p.0 q.0 h.0 g.0) (arguments_unique f xs ys ws p.1 q.1 h.1 g.1)
 
 pub words_unique : (words : List (List ℕ)) (c d : Command) → AreWords words c → AreWords words d → AreOneCommand c d
 words_unique words c d h g =
     let whole : verb_word (verb_of c) ∷ h.behind ≡ verb_word (verb_of d) ∷ g.behind = sym h.spelled ∙ g.spelled in
     let first : verb_word (verb_of c) ≡ verb_word (verb_of d) = cc (whole) in
     let rest : h.behind ≡ g.behind = cc (whole) in
+    let verb : verb_of c ≡ verb_of d = verb_unique (verb_of c) (verb_of d) first in
     record {
-      verb = verb_unique (verb_of c) (verb_of d) first;
-      arguments = arguments_unique (arguments_of c) (arguments_of d) h.behind h.are_arguments (subst (AreWordsOf (arguments_of d)) (sym rest) g.are_arguments);
+      verb = verb;
+      arguments = arguments_unique (form_of (verb_of d)) (arguments_of c) (arguments_of d) h.behind
+          (subst (λ v. AreOfForm (form_of v) (arguments_of c)) verb (are_of_form c)) (are_of_form d)
+          h.are_arguments (subst (AreWordsOf (arguments_of d)) (sym rest) g.are_arguments);
     }
 
 pub faulty_unique : (G : List (List ℕ) → Type 0) (words : List (List ℕ)) (m n : ℕ) → IsFaulty G words m → IsFaulty G words n → m ≡ n

@@ -1,3 +1,4 @@
+pub mod PointText
 pub mod Command
 pub mod Forms
 pub mod InputLines

@@ -4,16 +4,21 @@ ghost use Rattle.std.specs.Str.Parse.{IsNumeral};
 ghost use Rattle.irr_space.specs.Operation.{WaveVector};
 ghost use Rattle.irr_kvec.specs.Centrings.{IsWithinLimits};
 ghost use Rattle.irr_kvec.specs.WaveMeaning.{wave_vector};
+ghost use Rattle.irr_rat.specs.VectorMeaning.{vector};
+ghost use Rattle.irr_input.specs.PointText.{IsSmallPoint};
 ghost use Rattle.irr_input.specs.Command.{texts, AreWordsOf, IsWordOf};
-ghost use Rattle.irr_input.specs.Command.Argument.{wave, number};
-ghost use Rattle.irr_input.specs.Forms.Sort.{of_waves};
+ghost use Rattle.irr_input.specs.Command.Argument.{wave, point, form, number};
+ghost use Rattle.irr_input.specs.Forms.Sort.{of_waves, of_points};
 ghost use Rattle.irr_input.specs.Forms.Form.{no_more};
 ghost use Rattle.irr_input.specs.Forms.{BeginsWith, IsFirst, IsRefusedFrom};
 ghost use Rattle.irr_input.specs.Forms as forms;
 
+use crate::form::{Form, named_form};
+use crate::point::point_of;
 use crate::words::Usage;
 use irr_digits::{capped_value, digit_run};
 use irr_kvec::{Wave, read_wave};
+use irr_rat::Vec3;
 
 // The greatest number in a wave vector's text.
 const WAVE_LIMIT: u32 = 100_000;
@@ -57,6 +62,33 @@ pub(crate) fn two_or_three_waves(words: &[Vec<u8>]) -> Result<(Wave, Wave, Optio
     Ok((first, second, Some(third)))
 }
 
+// The point and the wave vector that the words write.
+pub(crate) fn point_and_wave(words: &[Vec<u8>]) -> Result<(Vec3, Wave), Usage>
+    ensures limits { IfOk result (λ r. IsSmallPoint r.0 × IsWithinLimits r.1) }
+    ensures words { IfOk result (λ r. AreWordsOf (point (vector r.0) ∷ wave (wave_vector r.1) ∷ []) (texts words.now)) }
+    ensures refused { IfErr result (λ e. IsRefusedFrom 2 forms.point_and_wave (texts words.now) e.0) }
+{
+    let (point, rest) = first_point(words)?;
+    let (wave, rest) = first_wave(rest, 3)?;
+    no_word(rest, 4)?;
+    Ok((point, wave))
+}
+
+// The form of tensors that the words write.
+pub(crate) fn one_form(words: &[Vec<u8>]) -> Result<Form, Usage>
+    ensures form { IfOk result (λ f. AreWordsOf (form f ∷ []) (texts words.now)) }
+    ensures refused { IfErr result (λ e. IsRefusedFrom 2 forms.one_form (texts words.now) e.0) }
+{
+    let Some((word, rest)) = words.split_first() else {
+        return Err(Usage(2));
+    };
+    let Some(value) = named_form(word) else {
+        return Err(Usage(2));
+    };
+    no_word(rest, 3)?;
+    Ok(value)
+}
+
 // The number that the words write.
 pub(crate) fn one_number(words: &[Vec<u8>]) -> Result<u32, Usage>
     ensures number { IfOk result (λ n. AreWordsOf (number n ∷ []) (texts words.now)) }
@@ -96,6 +128,21 @@ fn first_wave<'a>(words: &'a [Vec<u8>], number: u32) -> Result<(Wave, &'a [Vec<u
     match wave_of(word) {
         Some(first) => Ok((first, rest)),
         None => Err(Usage(number)),
+    }
+}
+
+// The point that the first word behind the command's writes, and the words behind it.
+fn first_point<'a>(words: &'a [Vec<u8>]) -> Result<(Vec3, &'a [Vec<u8>]), Usage>
+    ensures limits { IfOk result (λ r. IsSmallPoint r.0) }
+    ensures first { IfOk result (λ r. IsFirst (point (vector r.0)) (texts words.now) (texts r.1.now)) }
+    ensures none { IfErr result (λ e. (e.0 ≡ 2) × ¬ (BeginsWith of_points (texts words.now))) }
+{
+    let Some((word, rest)) = words.split_first() else {
+        return Err(Usage(2));
+    };
+    match point_of(word) {
+        Some(first) => Ok((first, rest)),
+        None => Err(Usage(2)),
     }
 }
 

@@ -1,5 +1,5 @@
 use crate::{
-    Command, Input, InputError, Reason, Usage, bytes_mean_one_input, read_input, read_words,
+    Command, Form, Input, InputError, Reason, Usage, bytes_mean_one_input, read_input, read_words,
     words_mean_one_command,
 };
 use irr_cyc::Dense;
@@ -7,8 +7,8 @@ use irr_kvec::Wave;
 use std::alloc::Global;
 use std::test::Fail;
 
-// What the words are read as: a command word, the denominators of its wave vectors or 0 where there are no
-// more, and its number.
+// What the words are read as: a command word, the denominators of its point and wave vectors or 0 where there are no
+// more, and its number, or that of its form of tensors.
 fn words_read(
     alloc: Global,
     words: &[&str],
@@ -29,8 +29,22 @@ fn parts(command: &Command) -> (&'static str, [u32; 4]) {
         Command::Product(k, l) => ("product", [k.den, l.den, 0, 0]),
         Command::Subduce(k) => ("subduce", [k.den, 0, 0, 0]),
         Command::Compat(k, l, m) => ("compat", [k.den, l.den, third(m), 0]),
+        Command::Square(k) => ("square", [k.den, 0, 0, 0]),
+        Command::Tensor(form) => ("tensor", [0, 0, 0, form_number(*form)]),
+        Command::Site(x, k) => ("site", [x.den, k.den, 0, 0]),
         Command::Check => ("check", [0, 0, 0, 0]),
         Command::Gen(number) => ("gen", [0, 0, 0, *number]),
+    }
+}
+
+fn form_number(form: Form) -> u32 {
+    match form {
+        Form::Rank1 => 1,
+        Form::Rank2 => 2,
+        Form::Rank3 => 3,
+        Form::Rank4 => 4,
+        Form::Sym2 => 5,
+        Form::Anti2 => 6,
     }
 }
 
@@ -59,6 +73,16 @@ fn words_are_commands(rt: HostRuntime) -> Result<(), Fail> {
             &["compat", "0,0,0", "1/2,0,0", "0,1/7,0"],
             ("compat", [1, 2, 7, 0]),
         ),
+        (&["square", "0,1/2,0"], ("square", [2, 0, 0, 0])),
+        (&["tensor", "1"], ("tensor", [0, 0, 0, 1])),
+        (&["tensor", "4"], ("tensor", [0, 0, 0, 4])),
+        (&["tensor", "sym2"], ("tensor", [0, 0, 0, 5])),
+        (&["tensor", "anti2"], ("tensor", [0, 0, 0, 6])),
+        (&["site", "1/8,0,0", "0,1/2,0"], ("site", [8, 2, 0, 0])),
+        (
+            &["site", "-1000/3, 1/8 ,0", "0,0,1/1001"],
+            ("site", [24, 1001, 0, 0]),
+        ),
         (&["check"], ("check", [0, 0, 0, 0])),
         (&["gen", "007"], ("gen", [0, 0, 0, 7])),
         (&["gen", "4294967295"], ("gen", [0, 0, 0, 4_294_967_295])),
@@ -84,6 +108,18 @@ fn the_first_faulty_word_is_named(rt: HostRuntime) -> Result<(), Fail> {
         (&["product", "0,0,0", "0,0,0", "0,0,0"], 4),
         (&["compat", "0,0,0", "0,0,0", "0"], 4),
         (&["compat", "0,0,0", "0,0,0", "0,0,0", "0,0,0"], 5),
+        (&["square"], 2),
+        (&["square", "0,0,0", "0,0,0"], 3),
+        (&["tensor"], 2),
+        (&["tensor", "5"], 2),
+        (&["tensor", "01"], 2),
+        (&["tensor", "sym2", "1"], 3),
+        (&["site", "1001,0,0", "0,0,0"], 2),
+        (&["site", "1/1001,0,0", "0,0,0"], 2),
+        (&["site", "0,2/2000,0", "0,0,0"], 2),
+        (&["site", "1/8,1/9,1/25", "0,0,0"], 2),
+        (&["site", "0,0,0"], 3),
+        (&["site", "0,0,0", "0,0,0", "0,0,0"], 4),
         (&["check", "0,0,0"], 2),
         (&["gen", "4294967296"], 2),
         (&["gen", "-1"], 2),

@@ -3,9 +3,13 @@ ghost use Rattle.std.specs.Prelude.{◌≡◌, IfOk, IfErr, IsOkAnd};
 ghost use Rattle.irr_input.specs.Command.{texts, verb_of, arguments_of, AreWordsOf, AreWords, AreLimited, AreOneCommand, IsCommand, IsFaulty};
 ghost use Rattle.irr_input.specs.Forms.{form_of, IsRefusedFrom};
 
-use crate::arguments::{no_word, one_number, one_wave, two_or_three_waves, two_waves};
+use crate::arguments::{
+    no_word, one_form, one_number, one_wave, point_and_wave, two_or_three_waves, two_waves,
+};
+use crate::form::Form;
 use crate::verb::{Verb, named_verb};
 use irr_kvec::Wave;
+use irr_rat::Vec3;
 use thiserror::Error;
 
 /// What is asked for: what to compute, and at which wave vectors or from which number.
@@ -25,6 +29,12 @@ pub enum Command {
     Subduce(Wave),
     /// The compatibility of representations along a line through two points, or in a plane through three.
     Compat(Wave, Wave, Option<Wave>),
+    /// The parts of symmetric and antisymmetric squares.
+    Square(Wave),
+    /// The parts of the tensors of a form.
+    Tensor(Form),
+    /// What the sites of a point bring to a wave vector.
+    Site(Vec3, Wave),
     /// Whether a report is right.
     Check,
     /// A summary for the made input of a number.
@@ -36,8 +46,9 @@ pub enum Command {
 #[error("word {0} is faulty or missing")]
 pub struct Usage(pub u32);
 
-/// The command that words ask for: a command word, byte by byte, and then the texts of its wave vectors, or the digits of a
-/// number of at most 4,294,967,295. It takes no memory.
+/// The command that words ask for: a command word, byte by byte, and then the texts of its wave vectors, with that of a point
+/// before them for sites, or the word of a form of tensors, or the digits of a number of at most 4,294,967,295. It takes no
+/// memory.
 pub fn read_words(words: &[Vec<u8>]) -> Result<Command, Usage>
     ensures words { IfOk result (AreWords (texts words.now)) }
     ensures limits { IfOk result AreLimited }
@@ -73,6 +84,12 @@ fn with_arguments(verb: Verb, words: &[Vec<u8>]) -> Result<Command, Usage>
         Verb::Compat => {
             let (first, second, third) = two_or_three_waves(words)?;
             Ok(Command::Compat(first, second, third))
+        }
+        Verb::Square => Ok(Command::Square(one_wave(words)?)),
+        Verb::Tensor => Ok(Command::Tensor(one_form(words)?)),
+        Verb::Site => {
+            let (point, wave) = point_and_wave(words)?;
+            Ok(Command::Site(point, wave))
         }
         Verb::Check => {
             no_word(words, 2)?;
