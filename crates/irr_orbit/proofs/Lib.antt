@@ -1,0 +1,15 @@
+pub mod Points
+pub mod Sites
+pub mod Monomial
+pub mod Canonical
+pub mod SiteMoves
+pub mod SiteFamilies
+pub mod SiteTables
+pub mod FirstSite
+pub mod SiteTraces
+pub mod SiteCounts
+pub mod Orbits
+pub mod Enumerations
+pub mod SameOrbits
+pub mod SiteBlocks
+pub mod SiteMultiples

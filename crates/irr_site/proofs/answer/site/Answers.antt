@@ -1,0 +1,1 @@
+use Rattle.irr_site.proofs.answer.site.Goals as goal

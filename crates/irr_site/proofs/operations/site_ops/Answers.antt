@@ -1,0 +1,1 @@
+use Rattle.irr_site.proofs.operations.site_ops.Goals as goal

@@ -1,0 +1,1 @@
+use Rattle.irr_site.proofs.rests.difference.Goals as goal

@@ -1,0 +1,11 @@
+pub mod Products
+pub mod Points
+pub mod Orbits
+pub mod Tables
+pub mod Numbers
+pub mod Rests
+pub mod Traces
+pub mod SiteContent
+pub mod Content
+pub mod Families
+pub mod FamilyParts
