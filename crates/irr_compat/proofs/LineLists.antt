@@ -1,11 +1,12 @@
 -- A complete list on the table of a line group, as the program made it.
 --   line_list_here            its sizes and characters
---   operations_here           its operations, with another one past the end
+--   places_here, operations_here     the numbers of its operations, and these with another one past the end
 --   sizes_here, rows_here     the sizes and the characters apart
 use Rattle.std.proofs.Common.{◌≡◌, sym, ◌∙◌, ap, subst, ℕ, suc, ◌<◌, ◌≤◌, List, length, get_or, map, slice_index}
 use Rattle.std.specs.Int.{◌∣◌}
+use Rattle.std.specs.List.{All}
 use Rattle.std.proofs.lemmas.List.{get_or-map, get_or_default, length-map}
-use Rattle.std.proofs.lemmas.List.Elements.{Contains-get_or}
+use Rattle.std.proofs.lemmas.List.Elements.{All-from_get_or, Contains-get_or}
 use native.Mathlib.Nat as Nat
 use mathlib.Core.Path.{fun_ext}
 use Rattle.irr_algebra.specs.Fin.{Fin, to_nat}
@@ -56,6 +57,10 @@ module _ {S : Type 0} {V : Ghosts S} {h : ℕ} (T : PhaseTable h) (few : h ≤ 4
           (own_at T (Nat.dvd_refl T.order) (s.list.member m)) (at_own m x).row;
     };
   }
+
+pub places_here : (group : Group) {n : ℕ} (point : Fin (suc n) → WaveVector) (xs : List ℕ) {h : ℕ} (T : PhaseTable h) → IsLineGroupTable group point xs T
+    → All (λ p. p < length group.ops.items) xs
+places_here group point xs T is = All-from_get_or (λ p. p < length group.ops.items) xs 0 (λ i l. is.places.below (get_or xs i 0) (Contains-get_or xs i 0 l))
 
 pub operations_here : (group : Group) {n : ℕ} (point : Fin (suc n) → WaveVector) (xs : List ℕ) {h : ℕ} (T : PhaseTable h) → IsLineGroupTable group point xs T
     → (d e : Op) → listed_operations group h xs d ≡ listed_operations group h xs e

@@ -2,11 +2,12 @@
 --   IsLineList .. T members        the sizes and characters of a complete list on T in canonical order
 --   IsLineHere .. group points line members    `line` is the table of the line group of the points, and `members` such on it
 --   here_point e, here_operation e     the points and the operations of the line
---   Shows .. r c                   the table has the sizes, the characters and the rows of the relations r
+--   Shows .. r c                   the table has the operations, the sizes, the characters and the rows of the relations r
 --   IsCompatTable .. group point c     the table is that of relations of these points in the group
 --   IsCompatRefusal group points e     the order of some of the points in front is the first above the limit; want of memory says
 --                                  nothing
-use Rattle.std.specs.Prelude.{ℕ, suc, ◌≡◌, List, length, map, slice_index, Vec}
+use Rattle.std.specs.Prelude.{ℕ, suc, ◌≡◌, ◌<◌, List, length, map, slice_index, Vec}
+use Rattle.std.specs.List.{All}
 use Rattle.std.specs.Global.{Global}
 use Rattle.irr_algebra.specs.Fin.{Fin, to_nat}
 use Rattle.irr_number.specs.Number.{Number}
@@ -62,6 +63,7 @@ here_operation {group = group} {line = line} e = listed_operations group (place_
 pub record Shows {S : Type 0} (order : S → ℕ) (value : (n : ℕ) → S → Number n) (group : Group) {n : ℕ}
     {point : Fin (suc n) → WaveVector} (c : LineTable S)
     (r : LineRelations (sign_of group.phase) (stands_for group) point (phase_table c.line)) : Type 0 where
+  pub places : All (λ p. p < length group.ops.items) (operation_places c.line)
   pub operations : (d : Op) → listed_operations group (place_count c.line) (operation_places c.line) d ≡ r.operation
   pub count : length c.dims.items ≡ r.list.count
   pub dims : (m : Fin r.list.count) → slice_index c.dims.items (to_nat m) ≡ r.list.size m

@@ -25,7 +25,9 @@ use std::alloc::Global;
 /// point k is read at the first point k0: its matrix at an operation with the vector v is multiplied by the phase of v
 /// at k0 - k. Numbers have the order of the line.
 ///
-/// The points have components of at most 100,000. The order is refused as in `line_group`.
+/// There are one to three points, with numerators of at most 10^14 in absolute value over a denominator of at most 10^7;
+/// they are taken as they are given, and with one point the line group is its little group. The order is refused as in
+/// `line_group`, and the other error is want of memory.
 pub fn compat<S: Lift>(
     alloc: Global,
     group: &Group,

@@ -15,7 +15,7 @@ use Rattle.irr_mult.specs.Listing.{item}
 use Rattle.irr_mult.specs.declared.star.SmallCharacter.{SmallCharacter}
 use Rattle.irr_compat.specs.LineTables.{IsLineHere, IsLineList}
 use Rattle.irr_compat.proofs.Lines.{line_has_steps}
-use Rattle.irr_compat.proofs.LineLists.{operations_here, sizes_here, rows_here}
+use Rattle.irr_compat.proofs.LineLists.{places_here, operations_here, sizes_here, rows_here}
 use Rattle.irr_compat.proofs.relations.line_relations.Goals as goal
 
 pub line_members-requires : goal.line_members-requires
@@ -63,6 +63,7 @@ returns g c = λ n d size.
         at_point = rows.0;
       };
       shown = record {
+        places = places_here group (line_points n c.args.points.now d) (operation_places t) (phase_table t) is;
         operations = λ p. operations_here group (line_points n c.args.points.now d) (operation_places t) (phase_table t) is p o;
         count = ap length dims ∙ length-map cs (λ (x : SmallCharacter g.row.S.Denot). x.dim) ∙ known.characters.count;
         dims = λ m. sizes_here order value (phase_table t) known.list cs known.characters

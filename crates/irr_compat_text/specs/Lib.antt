@@ -1,0 +1,2 @@
+pub mod CompatText
+pub mod Printed
