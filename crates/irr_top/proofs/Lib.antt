@@ -20,6 +20,10 @@ pub mod StarTexts
 pub mod FullTexts
 pub mod ProductsAlong
 pub mod ProductTexts
+pub mod CompatsAlong
+pub mod CompatTexts
 pub mod RealTexts
 pub mod RealContents
+pub mod SitesAlong
+pub mod SiteTexts
 pub mod OneStar

@@ -1,17 +1,23 @@
 -- Words and bytes ask for one status: so does each stage.
 --   asked_once       the status
-use Rattle.std.proofs.Common.{◌≡◌, ◌≢◌, refl, sym, ◌∙◌, ap, ap₂, subst, ℕ, ◌+◌, List, Option, Some, None, length}
-use Rattle.irr_space.specs.Operation.{Operation}
+use Rattle.std.proofs.Common.{◌≡◌, ◌≢◌, refl, sym, ◌∙◌, ap, ap₂, subst, ℕ, ◌+◌, Bool, nat_eq, List, [], ◌∷◌, Option, Some, None, length}
+use Rattle.std.specs.Prelude.{codes, if◌then◌else◌}
+use lib.Pointwise.{pointwise}
+use Rattle.irr_space.specs.Operation.{Operation, Vector, WaveVector}
 use Rattle.irr_space.specs.SpaceGroup.{Generated}
 use Rattle.irr_space.specs.Reciprocal.Sign.{minus}
 use Rattle.irr_text.specs.ReportText.{ReportContent}
 use Rattle.irr_seitz.specs.declared.op.Op.{Op}
 use Rattle.irr_kvec.specs.WaveMeaning.{wave_vector}
-use Rattle.irr_input.specs.Command.{AreOneCommand}
+use Rattle.irr_input.specs.Command.{AreOneCommand, Argument, arguments_of, verb_of, verb_word}
+use Rattle.irr_input.specs.Command.Argument.{wave, point, form, number}
 use Rattle.irr_input.specs.InputLines.{IsInput, HasLines}
 use Rattle.irr_input.specs.declared.input.GenLine.{GenLine}
 use Rattle.irr_input.specs.declared.input.Reason.TheVariants.{Missing}
 use Rattle.irr_input.proofs.OneInput.{fault_or_limit, faulty_line_unique, input_or_fault, input_or_limit, input_unique, limit_line_unique}
+use Rattle.irr_rat.specs.VectorMeaning.{vector}
+use Rattle.irr_input.proofs.PointTexts.{zero_point}
+use Rattle.irr_input.proofs.WaveTexts.{zero_wave}
 use Rattle.irr_input.proofs.WordForms.{faulty_unique, words_unique}
 use Rattle.irr_close.specs.StandsFor.{IsRefusal, IsAccepted}
 use Rattle.irr_close.specs.declared.CloseError.{CloseError}
@@ -21,7 +27,7 @@ use Rattle.irr_check.proofs.OneVerdict.{one_verdict}
 use Rattle.irr_top.specs.GroupOf.{group_of}
 use Rattle.irr_top.specs.CheckCommand.{verdict_status}
 use Rattle.irr_top.specs.Question.{Question, question_of}
-use Rattle.irr_top.specs.Question.Question.{star, small, full, product, real, check}
+use Rattle.irr_top.specs.Question.Question.{star, small, full, product, compat, real, site, check}
 use Rattle.irr_top.specs.Answer.{AsksOfGroup, IsReply, order_limit}
 use Rattle.irr_top.specs.Answer.AsksOfGroup.{order_too_large, reply}
 use Rattle.irr_top.specs.Asked.{Asks, AsksOfBytes, AsksOfLines, AsksOfInput, AsksOfGenerators, input_limit, operations_of, passed_limit}
@@ -32,7 +38,7 @@ use Rattle.irr_top.specs.Asked.AsksOfBytes.{too_long, lines}
 use Rattle.irr_top.specs.Asked.Asks.{faulty_word, request}
 use Rattle.irr_top.specs.Request.{command_of, IsCommand}
 use Rattle.irr_top.specs.declared.request.Request.{Request}
-use Rattle.irr_top.specs.declared.request.Request.TheVariants.{Star, Small, Full, Product, Real, Check}
+use Rattle.irr_top.specs.declared.request.Request.TheVariants.{Star, Small, Full, Product, Compat, Real, Site, Check}
 use Rattle.irr_top.specs.declared.status.Status.{Status}
 use Rattle.irr_top.specs.declared.status.Status.TheVariants.{Usage, BadInput, TooLarge}
 use Rattle.irr_top.specs.declared.status.Kind.{Kind}
@@ -49,7 +55,9 @@ reply_once (star k) G s t x y a b = a.0 ∙ sym b.0
 reply_once (small k) G s t x y a b = a.0 ∙ sym b.0
 reply_once (full k) G s t x y a b = a.0 ∙ sym b.0
 reply_once (product k l) G s t x y a b = a.0 ∙ sym b.0
+reply_once (compat k others) G s t x y a b = a.0 ∙ sym b.0
 reply_once (real k) G s t x y a b = a.0 ∙ sym b.0
+reply_once (site p k) G s t x y a b = a.0 ∙ sym b.0
 reply_once (check r) G s t x y a b = a.is_status ∙ ap verdict_status (one_verdict meaning minus G r a.is_verdict b.is_verdict) ∙ sym b.is_status
 
 group_once : (q : Question) (G : Operation → Type 0) {s t : Status} {x y : List ℕ} → AsksOfGroup q G s x
@@ -110,48 +118,75 @@ generators_along q {s = s} {x = x} same (group a g) = group (accepted_along same
 
 -- of an input
 
+-- what the word of a command and its arguments ask
+no_wave : WaveVector
+no_wave = wave_vector zero_wave
+
+no_point : Vector
+no_point = vector zero_point
+
+wave_at : List Argument → WaveVector
+wave_at [] = no_wave
+wave_at (wave k ∷ args) = k
+wave_at (point x ∷ args) = no_wave
+wave_at (form f ∷ args) = no_wave
+wave_at (number n ∷ args) = no_wave
+
+point_at : List Argument → Vector
+point_at [] = no_point
+point_at (wave k ∷ args) = no_point
+point_at (point x ∷ args) = x
+point_at (form f ∷ args) = no_point
+point_at (number n ∷ args) = no_point
+
+others : List Argument → List Argument
+others [] = []
+others (a ∷ args) = args
+
+waves_at : List Argument → List WaveVector
+waves_at [] = []
+waves_at (wave k ∷ args) = k ∷ waves_at args
+waves_at (point x ∷ args) = waves_at args
+waves_at (form f ∷ args) = waves_at args
+waves_at (number n ∷ args) = waves_at args
+
+verdict : Option ReportContent → Option Question
+verdict None = None
+verdict (Some r) = Some (check r)
+
+is_word : List ℕ → List ℕ → Bool
+is_word = pointwise nat_eq
+
+asks : List ℕ → List Argument → Option ReportContent → Option Question
+asks w args c = if is_word w (codes "star") then Some (star (wave_at args))
+    else (if is_word w (codes "small") then Some (small (wave_at args))
+    else (if is_word w (codes "full") then Some (full (wave_at args))
+    else (if is_word w (codes "product") then Some (product (wave_at args) (wave_at (others args)))
+    else (if is_word w (codes "compat") then Some (compat (wave_at args) (waves_at (others args)))
+    else (if is_word w (codes "real") then Some (real (wave_at args))
+    else (if is_word w (codes "site") then Some (site (point_at args) (wave_at (others args)))
+    else verdict c))))))
+
+asks_of : (r : Request) (c : Option ReportContent)
+    → asks (verb_word (verb_of (command_of r))) (arguments_of (command_of r)) c ≡ question_of r c
+unfolding asks is_word wave_at waves_at point_at others verdict
+asks_of (Star k) c = refl
+asks_of (Small k) c = refl
+asks_of (Full k) c = refl
+asks_of (Product k l) c = refl
+asks_of (Compat k l None) c = refl
+asks_of (Compat k l (Some m)) c = refl
+asks_of (Real k) c = refl
+asks_of (Site x k) c = refl
+asks_of Check None = refl
+asks_of Check (Some r) = refl
+
 question_once : (r q : Request) (c d : Option ReportContent) → AreOneCommand (command_of r) (command_of q) → c ≡ d
     → question_of r c ≡ question_of q d
-question_once (Star k) (Star m) c d h e = let a = h.arguments in let w : wave_vector k ≡ wave_vector m = cc in ap (λ x. Some (star x)) w
-question_once (Star k) (Small m) c d h e = absurd (let a = h.verb in cc)
-question_once (Star k) (Full m) c d h e = absurd (let a = h.verb in cc)
-question_once (Star k) (Product m n) c d h e = absurd (let a = h.verb in cc)
-question_once (Star k) (Real m) c d h e = absurd (let a = h.verb in cc)
-question_once (Star k) Check c d h e = absurd (let a = h.verb in cc)
-question_once (Small k) (Star m) c d h e = absurd (let a = h.verb in cc)
-question_once (Small k) (Small m) c d h e = let a = h.arguments in let w : wave_vector k ≡ wave_vector m = cc in ap (λ x. Some (small x)) w
-question_once (Small k) (Full m) c d h e = absurd (let a = h.verb in cc)
-question_once (Small k) (Product m n) c d h e = absurd (let a = h.verb in cc)
-question_once (Small k) (Real m) c d h e = absurd (let a = h.verb in cc)
-question_once (Small k) Check c d h e = absurd (let a = h.verb in cc)
-question_once (Full k) (Star m) c d h e = absurd (let a = h.verb in cc)
-question_once (Full k) (Small m) c d h e = absurd (let a = h.verb in cc)
-question_once (Full k) (Full m) c d h e = let a = h.arguments in let w : wave_vector k ≡ wave_vector m = cc in ap (λ x. Some (full x)) w
-question_once (Full k) (Product m n) c d h e = absurd (let a = h.verb in cc)
-question_once (Full k) (Real m) c d h e = absurd (let a = h.verb in cc)
-question_once (Full k) Check c d h e = absurd (let a = h.verb in cc)
-question_once (Product k l) (Star m) c d h e = absurd (let a = h.verb in cc)
-question_once (Product k l) (Small m) c d h e = absurd (let a = h.verb in cc)
-question_once (Product k l) (Full m) c d h e = absurd (let a = h.verb in cc)
-question_once (Product k l) (Product m n) c d h e =
-    let a = h.arguments in
-    let first : wave_vector k ≡ wave_vector m = cc in
-    let second : wave_vector l ≡ wave_vector n = cc in
-    ap₂ (λ x y. Some (product x y)) first second
-question_once (Product k l) (Real m) c d h e = absurd (let a = h.verb in cc)
-question_once (Product k l) Check c d h e = absurd (let a = h.verb in cc)
-question_once (Real k) (Star m) c d h e = absurd (let a = h.verb in cc)
-question_once (Real k) (Small m) c d h e = absurd (let a = h.verb in cc)
-question_once (Real k) (Full m) c d h e = absurd (let a = h.verb in cc)
-question_once (Real k) (Product m n) c d h e = absurd (let a = h.verb in cc)
-question_once (Real k) (Real m) c d h e = let a = h.arguments in let w : wave_vector k ≡ wave_vector m = cc in ap (λ x. Some (real x)) w
-question_once (Real k) Check c d h e = absurd (let a = h.verb in cc)
-question_once Check (Star m) c d h e = absurd (let a = h.verb in cc)
-question_once Check (Small m) c d h e = absurd (let a = h.verb in cc)
-question_once Check (Full m) c d h e = absurd (let a = h.verb in cc)
-question_once Check (Product m n) c d h e = absurd (let a = h.verb in cc)
-question_once Check (Real m) c d h e = absurd (let a = h.verb in cc)
-question_once Check Check c d h e = ap (question_of Check) e
+question_once r q c d h e = sym (asks_of r c)
+    ∙ ap₂ (λ w args. asks w args c) (ap verb_word h.verb) h.arguments
+    ∙ ap (asks (verb_word (verb_of (command_of q))) (arguments_of (command_of q))) e
+    ∙ asks_of q d
 
 -- two readings of one input by one command
 module _ (r q : Request) (c d : Option ReportContent) (gens hens : List Op) (m n : ℕ) (one : question_of r c ≡ question_of q d)

@@ -116,6 +116,7 @@ module _ (G H : Operation → Type 0) (same : (g : Operation) → G g ↔ H g) w
     second = is.second;
     dim = is.dim;
     parts = λ positive. parts_along s positive _ _ (is.parts positive);
+    adds_up = is.adds_up;
   }
 
   pub products_along : (s : Sign) (k l : WaveVector) (M : ℕ) (ps : List PairContent) → AreProducts s G k l M ps → AreProducts s H k l M ps

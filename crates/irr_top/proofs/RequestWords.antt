@@ -2,16 +2,16 @@
 --   served_command       a command whose verb is served is a request
 --   faulty_unserved      the first word is that of no command that is served, or there is none
 --   faulty_served        behind the word of a command that is served, a word is faulty where it is for all commands
-use Rattle.std.proofs.Common.{◌≡◌, refl, sym, ◌∙◌, ℕ, zero, suc, ◌≤◌, inl, inr, List, [], ◌∷◌, ◌++◌, length, take, arith}
-use Rattle.std.specs.Prelude.{codes}
+use Rattle.std.proofs.Common.{◌≡◌, refl, sym, ◌∙◌, ap, ℕ, zero, suc, ◌≤◌, Bool, true, false, nat_eq, inl, inr, List, [], ◌∷◌, ◌++◌, length, take, arith}
+use Rattle.std.specs.Prelude.{codes, if◌then◌else◌}
+use lib.Pointwise.{pointwise}
 use Rattle.irr_grammar.specs.ShapePlace.{BeginsIn}
 use Rattle.irr_input.specs.Command.{AreWords, IsFaulty, verb_of, verb_word, IsCommand as IsAnyCommand}
 use Rattle.irr_input.specs.declared.words.Command.{Command}
 use Rattle.irr_input.specs.declared.words.Command.TheVariants as commands
 use Rattle.irr_input.proofs.WaveTexts.{zero-text, zero_wave}
-use Rattle.irr_input.proofs.WordForms.{verb_unique}
 use Rattle.irr_top.specs.Request.{BeginsServed, IsCommand, IsFaultyWord, IsServed}
-use Rattle.irr_top.specs.declared.request.Request.TheVariants.{Star, Small, Full, Product, Real, Check}
+use Rattle.irr_top.specs.declared.request.Request.TheVariants.{Star, Small, Full, Product, Compat, Real, Site, Check}
 
 served_command : (words : List (List ℕ)) (c : Command) → AreWords words c → IsServed c → IsCommand words
 served_command words (commands.Star k) a v = (Star k, a)
@@ -20,46 +20,57 @@ served_command words (commands.Full k) a v = (Full k, a)
 served_command words (commands.Real k) a v = (Real k, a)
 served_command words (commands.Product k l) a v = (Product k l, a)
 served_command words (commands.Subduce k) a v = absurd v
-served_command words (commands.Compat k l m) a v = absurd v
+served_command words (commands.Compat k l m) a v = (Compat k l m, a)
+served_command words (commands.Square k) a v = absurd v
+served_command words (commands.Tensor f) a v = absurd v
+served_command words (commands.Site x k) a v = (Site x k, a)
 served_command words commands.Check a v = (Check, a)
 served_command words (commands.Gen n) a v = absurd v
 
--- a command with the word of one that is served
-same_served : (c d : Command) → IsServed d → verb_of c ≡ verb_of d → IsServed c
-same_served (commands.Star k) d v e = tt
-same_served (commands.Small k) d v e = tt
-same_served (commands.Full k) d v e = tt
-same_served (commands.Real k) d v e = tt
-same_served (commands.Product k l) d v e = tt
-same_served commands.Check d v e = tt
-same_served (commands.Subduce k) (commands.Star j) v e = cc
-same_served (commands.Subduce k) (commands.Small j) v e = cc
-same_served (commands.Subduce k) (commands.Full j) v e = cc
-same_served (commands.Subduce k) (commands.Real j) v e = cc
-same_served (commands.Subduce k) (commands.Product i j) v e = cc
-same_served (commands.Subduce k) commands.Check v e = cc
-same_served (commands.Compat k m n) (commands.Star j) v e = cc
-same_served (commands.Compat k m n) (commands.Small j) v e = cc
-same_served (commands.Compat k m n) (commands.Full j) v e = cc
-same_served (commands.Compat k m n) (commands.Real j) v e = cc
-same_served (commands.Compat k m n) (commands.Product i j) v e = cc
-same_served (commands.Compat k m n) commands.Check v e = cc
-same_served (commands.Gen n) (commands.Star j) v e = cc
-same_served (commands.Gen n) (commands.Small j) v e = cc
-same_served (commands.Gen n) (commands.Full j) v e = cc
-same_served (commands.Gen n) (commands.Real j) v e = cc
-same_served (commands.Gen n) (commands.Product i j) v e = cc
-same_served (commands.Gen n) commands.Check v e = cc
-same_served c (commands.Subduce l) v e = absurd v
-same_served c (commands.Compat l m n) v e = absurd v
-same_served c (commands.Gen n) v e = absurd v
+-- the words of the commands that are served
+
+same : List ℕ → List ℕ → Bool
+same = pointwise nat_eq
+
+is_served : List ℕ → Bool
+is_served w = if same w (codes "star") then true else (if same w (codes "small") then true else (if same w (codes "full") then true
+    else (if same w (codes "product") then true else (if same w (codes "compat") then true else (if same w (codes "real") then true
+    else (if same w (codes "site") then true else (if same w (codes "check") then true else false)))))))
+
+served_word : (w : List ℕ) (ws : List (List ℕ)) → BeginsServed (w ∷ ws) → is_served w ≡ true
+unfolding is_served same
+served_word w ws (inl e) = ap is_served e
+served_word w ws (inr (inl e)) = ap is_served e
+served_word w ws (inr (inr (inl e))) = ap is_served e
+served_word w ws (inr (inr (inr (inl e)))) = ap is_served e
+served_word w ws (inr (inr (inr (inr (inl e))))) = ap is_served e
+served_word w ws (inr (inr (inr (inr (inr (inl e)))))) = ap is_served e
+served_word w ws (inr (inr (inr (inr (inr (inr (inl e))))))) = ap is_served e
+served_word w ws (inr (inr (inr (inr (inr (inr (inr e))))))) = ap is_served e
+
+served_verb : (c : Command) → is_served (verb_word (verb_of c)) ≡ true → IsServed c
+unfolding is_served same
+served_verb (commands.Star k) e = tt
+served_verb (commands.Small k) e = tt
+served_verb (commands.Full k) e = tt
+served_verb (commands.Real k) e = tt
+served_verb (commands.Product k l) e = tt
+served_verb (commands.Subduce k) e = cc
+served_verb (commands.Compat k l m) e = tt
+served_verb (commands.Square k) e = cc
+served_verb (commands.Tensor f) e = cc
+served_verb (commands.Site x k) e = tt
+served_verb commands.Check e = tt
+served_verb (commands.Gen n) e = cc
 
 any_command : (words : List (List ℕ)) → IsCommand words → IsAnyCommand words
 any_command words (Star k, a) = (commands.Star k, a)
 any_command words (Small k, a) = (commands.Small k, a)
 any_command words (Full k, a) = (commands.Full k, a)
 any_command words (Product k l, a) = (commands.Product k l, a)
+any_command words (Compat k l m, a) = (commands.Compat k l m, a)
 any_command words (Real k, a) = (commands.Real k, a)
+any_command words (Site x k, a) = (commands.Site x k, a)
 any_command words (Check, a) = (commands.Check, a)
 
 -- the first word of a command is that of its verb
@@ -71,28 +82,21 @@ begins [] (Star k, a) = let e : [] ≡ codes "star" ∷ a.behind = a.spelled in 
 begins [] (Small k, a) = let e : [] ≡ codes "small" ∷ a.behind = a.spelled in cc
 begins [] (Full k, a) = let e : [] ≡ codes "full" ∷ a.behind = a.spelled in cc
 begins [] (Product k l, a) = let e : [] ≡ codes "product" ∷ a.behind = a.spelled in cc
+begins [] (Compat k l m, a) = let e : [] ≡ codes "compat" ∷ a.behind = a.spelled in cc
 begins [] (Real k, a) = let e : [] ≡ codes "real" ∷ a.behind = a.spelled in cc
+begins [] (Site x k, a) = let e : [] ≡ codes "site" ∷ a.behind = a.spelled in cc
 begins [] (Check, a) = let e : [] ≡ codes "check" ∷ a.behind = a.spelled in cc
 begins (first ∷ ws) (Star k, a) = inl (first_word first ws (commands.Star k) a)
 begins (first ∷ ws) (Small k, a) = inr (inl (first_word first ws (commands.Small k) a))
 begins (first ∷ ws) (Full k, a) = inr (inr (inl (first_word first ws (commands.Full k) a)))
 begins (first ∷ ws) (Product k l, a) = inr (inr (inr (inl (first_word first ws (commands.Product k l) a))))
-begins (first ∷ ws) (Real k, a) = inr (inr (inr (inr (inl (first_word first ws (commands.Real k) a)))))
-begins (first ∷ ws) (Check, a) = inr (inr (inr (inr (inr (first_word first ws commands.Check a)))))
+begins (first ∷ ws) (Compat k l m, a) = inr (inr (inr (inr (inl (first_word first ws (commands.Compat k l m) a)))))
+begins (first ∷ ws) (Real k, a) = inr (inr (inr (inr (inr (inl (first_word first ws (commands.Real k) a))))))
+begins (first ∷ ws) (Site x k, a) = inr (inr (inr (inr (inr (inr (inl (first_word first ws (commands.Site x k) a)))))))
+begins (first ∷ ws) (Check, a) = inr (inr (inr (inr (inr (inr (inr (first_word first ws commands.Check a)))))))
 
 served_first : (first : List ℕ) (ws : List (List ℕ)) (c : Command) → BeginsServed (first ∷ ws) → AreWords (first ∷ ws) c → IsServed c
-served_first first ws c (inl e) a = same_served c (commands.Star zero_wave) tt
-    (verb_unique (verb_of c) (verb_of (commands.Star zero_wave)) (sym (first_word first ws c a) ∙ e))
-served_first first ws c (inr (inl e)) a = same_served c (commands.Small zero_wave) tt
-    (verb_unique (verb_of c) (verb_of (commands.Small zero_wave)) (sym (first_word first ws c a) ∙ e))
-served_first first ws c (inr (inr (inl e))) a = same_served c (commands.Full zero_wave) tt
-    (verb_unique (verb_of c) (verb_of (commands.Full zero_wave)) (sym (first_word first ws c a) ∙ e))
-served_first first ws c (inr (inr (inr (inl e)))) a = same_served c (commands.Product zero_wave zero_wave) tt
-    (verb_unique (verb_of c) (verb_of (commands.Product zero_wave zero_wave)) (sym (first_word first ws c a) ∙ e))
-served_first first ws c (inr (inr (inr (inr (inl e))))) a = same_served c (commands.Real zero_wave) tt
-    (verb_unique (verb_of c) (verb_of (commands.Real zero_wave)) (sym (first_word first ws c a) ∙ e))
-served_first first ws c (inr (inr (inr (inr (inr e))))) a = same_served c commands.Check tt
-    (verb_unique (verb_of c) (verb_of commands.Check) (sym (first_word first ws c a) ∙ e))
+served_first first ws c b a = served_verb c (ap is_served (sym (first_word first ws c a)) ∙ served_word first ws b)
 
 some_command : IsCommand (codes "star" ∷ codes "0,0,0" ∷ [])
 some_command = (Star zero_wave, record { behind = codes "0,0,0" ∷ []; spelled = refl; are_arguments = (zero-text, tt) })

@@ -10,12 +10,14 @@ use Rattle.std.specs.Prelude.{ℕ, ◌<◌, ◌≤◌, List}
 use Rattle.irr_cyc.specs.declared.orders.TheConstants.{ORDER_LIMIT}
 use Rattle.irr_space.specs.Operation.{Operation}
 use Rattle.irr_top.specs.Question.{Question, IsNeededOrder}
-use Rattle.irr_top.specs.Question.Question.{star, small, full, product, real, check}
+use Rattle.irr_top.specs.Question.Question.{star, small, full, product, compat, real, site, check}
 use Rattle.irr_top.specs.StarCommand.{IsStarReply}
 use Rattle.irr_top.specs.SmallCommand.{IsSmallReply}
 use Rattle.irr_top.specs.FullCommand.{IsFullReply}
 use Rattle.irr_top.specs.ProductCommand.{IsProductReply}
+use Rattle.irr_top.specs.CompatCommand.{IsCompatReply}
 use Rattle.irr_top.specs.RealCommand.{IsRealReply}
+use Rattle.irr_top.specs.SiteCommand.{IsSiteReply}
 use Rattle.irr_top.specs.CheckCommand.{IsCheckReply}
 use Rattle.irr_top.specs.RefusalText.{refusal_text}
 use Rattle.irr_top.specs.declared.reply.Reply.{Reply}
@@ -33,7 +35,9 @@ IsReply (star k) G s text = IsStarReply G k s text
 IsReply (small k) G s text = IsSmallReply G k s text
 IsReply (full k) G s text = IsFullReply G k s text
 IsReply (product k l) G s text = IsProductReply G k l s text
+IsReply (compat k others) G s text = IsCompatReply G k others s text
 IsReply (real k) G s text = IsRealReply G k s text
+IsReply (site x k) G s text = IsSiteReply G x k s text
 IsReply (check r) G s text = IsCheckReply G r s text
 
 pub record IsTooLargeAt (q : Question) (G : Operation → Type 0) (n : ℕ) : Type 0 where

@@ -7,7 +7,9 @@ pub mod StarCommand
 pub mod SmallCommand
 pub mod FullCommand
 pub mod ProductCommand
+pub mod CompatCommand
 pub mod RealCommand
+pub mod SiteCommand
 pub mod CheckCommand
 pub mod Answer
 pub mod Asked

@@ -16,12 +16,14 @@ ghost use Rattle.irr_top.specs.Outcome.{OutcomeOf, Serves};
 ghost use Rattle.irr_top.specs.Task.{asked_by, IsLimited};
 
 use crate::check::check_reply;
+use crate::compat::compat_reply;
 use crate::full::full_reply;
 use crate::product::product_reply;
 use crate::real::real_reply;
 use crate::refusal::{finish, refuse};
 use crate::reply::{NoReply, Reply};
 use crate::request::Request;
+use crate::site::site_reply;
 use crate::small::small_reply;
 use crate::star::star_reply;
 use crate::status::{Kind, Status};
@@ -181,7 +183,9 @@ fn reply_of(alloc: Global, task: &Task, group: &Group) -> Result<Reply, NoReply>
         Task::Small(wave) => small_reply(alloc, group, wave),
         Task::Full(wave) => full_reply(alloc, group, wave),
         Task::Product(first, second) => product_reply(alloc, group, first, second),
+        Task::Compat(first, second, third) => compat_reply(alloc, group, first, second, third),
         Task::Real(wave) => real_reply(alloc, group, wave),
+        Task::Site(point, wave) => site_reply(alloc, group, point, wave),
         Task::Check(report) => check_reply(alloc, group, report),
     }
 }

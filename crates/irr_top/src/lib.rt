@@ -3,6 +3,7 @@
 
 mod answer;
 mod check;
+mod compat;
 mod full;
 mod laws;
 mod product;
@@ -11,6 +12,7 @@ mod refusal;
 mod reply;
 mod report;
 mod request;
+mod site;
 mod small;
 mod star;
 mod status;

@@ -5,6 +5,7 @@ ghost use Rattle.irr_top.specs.Request.{command_of, BeginsServed, IsFaultyWord, 
 
 use irr_input::{Command, Usage, read_words};
 use irr_kvec::Wave;
+use irr_rat::Vec3;
 
 /// What is asked for.
 #[derive(Clone, Copy)]
@@ -17,8 +18,12 @@ pub(crate) enum Request {
     Full(Wave),
     /// The direct products of the full representations at two wave vectors.
     Product(Wave, Wave),
+    /// The compatibility relations of a line through two points, or of a plane through three.
+    Compat(Wave, Wave, Option<Wave>),
     /// The types of the full representations.
     Real(Wave),
+    /// The sites of a point, and what they bring to a wave vector.
+    Site(Vec3, Wave),
     /// The verdict on the input's report.
     Check,
 }
@@ -49,9 +54,12 @@ fn request_of(command: Command) -> Option<Request>
         Command::Small(wave) => Some(Request::Small(wave)),
         Command::Full(wave) => Some(Request::Full(wave)),
         Command::Product(first, second) => Some(Request::Product(first, second)),
+        Command::Compat(first, second, third) => Some(Request::Compat(first, second, third)),
         Command::Real(wave) => Some(Request::Real(wave)),
+        Command::Site(point, wave) => Some(Request::Site(point, wave)),
         Command::Check => Some(Request::Check),
-        Command::Subduce(_) | Command::Compat(..) | Command::Gen(_) => None,
+        Command::Subduce(_) | Command::Square(_) | Command::Tensor(_) => None,
+        Command::Gen(_) => None,
     }
 }
 
@@ -62,7 +70,7 @@ fn begins_served(words: &[Vec<u8>]) -> bool
     match words.split_first() {
         Some((first, _)) => matches!(
             first.as_slice(),
-            b"star" | b"small" | b"full" | b"product" | b"real" | b"check"
+            b"star" | b"small" | b"full" | b"product" | b"compat" | b"real" | b"site" | b"check"
         ),
         None => false,
     }

@@ -9,6 +9,7 @@ ghost use Rattle.irr_top.specs.Task.{asked_by, IsLimited};
 
 use crate::request::Request;
 use irr_kvec::Wave;
+use irr_rat::Vec3;
 use irr_report::Report;
 use irr_sparse::Sparse;
 
@@ -26,8 +27,12 @@ pub(crate) enum Task {
     Full(Wave),
     /// The direct products of the full representations at two wave vectors.
     Product(Wave, Wave),
+    /// The compatibility relations of a line through two points, or of a plane through three.
+    Compat(Wave, Wave, Option<Wave>),
     /// The types of the full representations at a wave vector.
     Real(Wave),
+    /// The sites of a point, and what they bring to a wave vector.
+    Site(Vec3, Wave),
     /// The verdict on a report.
     Check(Report<Number>),
 }
@@ -45,7 +50,9 @@ pub(crate) fn task_of(request: &Request, report: Option<Report<Number>>) -> Opti
         Request::Small(wave) => Some(Task::Small(*wave)),
         Request::Full(wave) => Some(Task::Full(*wave)),
         Request::Product(first, second) => Some(Task::Product(*first, *second)),
+        Request::Compat(first, second, third) => Some(Task::Compat(*first, *second, *third)),
         Request::Real(wave) => Some(Task::Real(*wave)),
+        Request::Site(point, wave) => Some(Task::Site(*point, *wave)),
         Request::Check => match report {
             Some(report) => Some(Task::Check(report)),
             None => None,

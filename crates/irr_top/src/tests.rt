@@ -1,5 +1,7 @@
+mod compat;
 mod numbers;
 mod quoted;
+mod site;
 
 use super::*;
 use irr_io::{MemSink, MemSource};
@@ -572,6 +574,12 @@ fn words_are_refused(rt: HostRuntime) -> Result<(), Fail> {
         (&["product", "0,0,0"], "usage 3\n"),
         (&["product", "0,0,0", "1/0,0,0"], "usage 3\n"),
         (&["product", "0,0,0", "0,0,0", "0"], "usage 4\n"),
+        (&["compat", "0,0,0"], "usage 3\n"),
+        (&["compat", "0,0,0", "0,0,0", "1/0,0,0"], "usage 4\n"),
+        (&["compat", "0,0,0", "0,0,0", "0,0,0", "0"], "usage 5\n"),
+        (&["site", "0,0,0"], "usage 3\n"),
+        (&["site", "1001,0,0", "0,0,0"], "usage 2\n"),
+        (&["site", "0,0,0", "0,0,0", "0"], "usage 4\n"),
         (&["subduce", "0,0,0"], "usage 1\n"),
         (&["check", "0"], "usage 2\n"),
     ] {

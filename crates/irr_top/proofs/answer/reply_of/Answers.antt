@@ -22,9 +22,17 @@ pub returns-in-Product-clause-none : goal.returns-in-Product-clause-none
 returns-in-Product-clause-none c = λ gens is. subst (λ (t : Task). IfErr c.product_reply.result (IsNoReply (asked_by t) (group_of gens)))
     (sym c.in-Product.is) (c.product_reply.ensures.none gens is)
 
+pub returns-in-Compat-clause-none : goal.returns-in-Compat-clause-none
+returns-in-Compat-clause-none c = λ gens is. subst (λ (t : Task). IfErr c.compat_reply.result (IsNoReply (asked_by t) (group_of gens)))
+    (sym c.in-Compat.is) (c.compat_reply.ensures.none gens is)
+
 pub returns-in-Real-clause-none : goal.returns-in-Real-clause-none
 returns-in-Real-clause-none c = λ gens is. subst (λ (t : Task). IfErr c.real_reply.result (IsNoReply (asked_by t) (group_of gens)))
     (sym c.in-Real.is) (c.real_reply.ensures.none gens is)
+
+pub returns-in-Site-clause-none : goal.returns-in-Site-clause-none
+returns-in-Site-clause-none c = λ gens is. subst (λ (t : Task). IfErr c.site_reply.result (IsNoReply (asked_by t) (group_of gens)))
+    (sym c.in-Site.is) (c.site_reply.ensures.none gens is)
 
 pub returns-in-Check-clause-none : goal.returns-in-Check-clause-none
 returns-in-Check-clause-none c = λ gens is. subst (λ (t : Task). IfErr c.check_reply.result (IsNoReply (asked_by t) (group_of gens)))
