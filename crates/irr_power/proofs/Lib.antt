@@ -1,0 +1,16 @@
+pub mod PairTraces
+pub mod SquareClasses
+pub mod SquareSpaces
+pub mod TracedSquares
+pub mod HalfNumbers
+pub mod ReturnItems
+pub mod HalfRows
+pub mod SquareTexts
+pub mod SquareRows
+pub mod MeetingRows
+pub mod SquareEntries
+pub mod WholeSquares
+pub mod MadeRows
+pub mod FormNumbers
+pub mod FormSpaces
+pub mod TracedForms

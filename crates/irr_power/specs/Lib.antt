@@ -1,0 +1,11 @@
+pub mod Places
+pub mod Halves
+pub mod Returns
+pub mod Targets
+pub mod Doubles
+pub mod Squares
+pub mod Meetings
+pub mod SquareText
+pub mod Tensors
+pub mod FormTraces
+pub mod TensorText
