@@ -24,6 +24,8 @@ pub mod CompatsAlong
 pub mod CompatTexts
 pub mod RealTexts
 pub mod RealContents
+pub mod SquareTexts
+pub mod TensorTexts
 pub mod SitesAlong
 pub mod SiteTexts
 pub mod OneStar

@@ -12,6 +12,8 @@ use Rattle.irr_kvec.specs.WaveMeaning.{wave_vector}
 use Rattle.irr_input.specs.Command.{AreOneCommand, Argument, arguments_of, verb_of, verb_word}
 use Rattle.irr_input.specs.Command.Argument.{wave, point, form, number}
 use Rattle.irr_input.specs.InputLines.{IsInput, HasLines}
+use Rattle.irr_input.specs.declared.form.Form.{Form}
+use Rattle.irr_input.specs.declared.form.Form.TheVariants.{Rank1}
 use Rattle.irr_input.specs.declared.input.GenLine.{GenLine}
 use Rattle.irr_input.specs.declared.input.Reason.TheVariants.{Missing}
 use Rattle.irr_input.proofs.OneInput.{fault_or_limit, faulty_line_unique, input_or_fault, input_or_limit, input_unique, limit_line_unique}
@@ -27,7 +29,7 @@ use Rattle.irr_check.proofs.OneVerdict.{one_verdict}
 use Rattle.irr_top.specs.GroupOf.{group_of}
 use Rattle.irr_top.specs.CheckCommand.{verdict_status}
 use Rattle.irr_top.specs.Question.{Question, question_of}
-use Rattle.irr_top.specs.Question.Question.{star, small, full, product, compat, real, site, check}
+use Rattle.irr_top.specs.Question.Question.{star, small, full, product, compat, real, square, tensor, site, check}
 use Rattle.irr_top.specs.Answer.{AsksOfGroup, IsReply, order_limit}
 use Rattle.irr_top.specs.Answer.AsksOfGroup.{order_too_large, reply}
 use Rattle.irr_top.specs.Asked.{Asks, AsksOfBytes, AsksOfLines, AsksOfInput, AsksOfGenerators, input_limit, operations_of, passed_limit}
@@ -38,7 +40,7 @@ use Rattle.irr_top.specs.Asked.AsksOfBytes.{too_long, lines}
 use Rattle.irr_top.specs.Asked.Asks.{faulty_word, request}
 use Rattle.irr_top.specs.Request.{command_of, IsCommand}
 use Rattle.irr_top.specs.declared.request.Request.{Request}
-use Rattle.irr_top.specs.declared.request.Request.TheVariants.{Star, Small, Full, Product, Compat, Real, Site, Check}
+use Rattle.irr_top.specs.declared.request.Request.TheVariants.{Star, Small, Full, Product, Compat, Real, Square, Tensor, Site, Check}
 use Rattle.irr_top.specs.declared.status.Status.{Status}
 use Rattle.irr_top.specs.declared.status.Status.TheVariants.{Usage, BadInput, TooLarge}
 use Rattle.irr_top.specs.declared.status.Kind.{Kind}
@@ -57,6 +59,8 @@ reply_once (full k) G s t x y a b = a.0 ∙ sym b.0
 reply_once (product k l) G s t x y a b = a.0 ∙ sym b.0
 reply_once (compat k others) G s t x y a b = a.0 ∙ sym b.0
 reply_once (real k) G s t x y a b = a.0 ∙ sym b.0
+reply_once (square k) G s t x y a b = a.0 ∙ sym b.0
+reply_once (tensor f) G s t x y a b = a.0 ∙ sym b.0
 reply_once (site p k) G s t x y a b = a.0 ∙ sym b.0
 reply_once (check r) G s t x y a b = a.is_status ∙ ap verdict_status (one_verdict meaning minus G r a.is_verdict b.is_verdict) ∙ sym b.is_status
 
@@ -132,6 +136,13 @@ wave_at (point x ∷ args) = no_wave
 wave_at (form f ∷ args) = no_wave
 wave_at (number n ∷ args) = no_wave
 
+form_at : List Argument → Form
+form_at [] = Rank1
+form_at (wave k ∷ args) = Rank1
+form_at (point x ∷ args) = Rank1
+form_at (form f ∷ args) = f
+form_at (number n ∷ args) = Rank1
+
 point_at : List Argument → Vector
 point_at [] = no_point
 point_at (wave k ∷ args) = no_point
@@ -164,12 +175,14 @@ asks w args c = if is_word w (codes "star") then Some (star (wave_at args))
     else (if is_word w (codes "product") then Some (product (wave_at args) (wave_at (others args)))
     else (if is_word w (codes "compat") then Some (compat (wave_at args) (waves_at (others args)))
     else (if is_word w (codes "real") then Some (real (wave_at args))
+    else (if is_word w (codes "square") then Some (square (wave_at args))
+    else (if is_word w (codes "tensor") then Some (tensor (form_at args))
     else (if is_word w (codes "site") then Some (site (point_at args) (wave_at (others args)))
-    else verdict c))))))
+    else verdict c))))))))
 
 asks_of : (r : Request) (c : Option ReportContent)
     → asks (verb_word (verb_of (command_of r))) (arguments_of (command_of r)) c ≡ question_of r c
-unfolding asks is_word wave_at waves_at point_at others verdict
+unfolding asks is_word wave_at waves_at form_at point_at others verdict
 asks_of (Star k) c = refl
 asks_of (Small k) c = refl
 asks_of (Full k) c = refl
@@ -177,6 +190,8 @@ asks_of (Product k l) c = refl
 asks_of (Compat k l None) c = refl
 asks_of (Compat k l (Some m)) c = refl
 asks_of (Real k) c = refl
+asks_of (Square k) c = refl
+asks_of (Tensor f) c = refl
 asks_of (Site x k) c = refl
 asks_of Check None = refl
 asks_of Check (Some r) = refl

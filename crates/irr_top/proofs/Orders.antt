@@ -10,9 +10,10 @@ use Rattle.irr_space.specs.Reciprocal.{IsOrder}
 use Rattle.irr_check.proofs.OneTable.{order_unique}
 use Rattle.irr_line.proofs.Orders.{line_order_unique}
 use Rattle.irr_product.proofs.PairOrders.{pair_order_unique}
+use Rattle.irr_power.specs.Tensors.{origin}
 use Rattle.irr_top.specs.CompatCommand.{point_of}
 use Rattle.irr_top.specs.Question.{Question, IsNeededOrder}
-use Rattle.irr_top.specs.Question.Question.{star, small, full, product, compat, real, site, check}
+use Rattle.irr_top.specs.Question.Question.{star, small, full, product, compat, real, square, tensor, site, check}
 use Rattle.irr_top.specs.Answer.{IsTooLargeAt, order_limit}
 
 zero_or_one : (i : ℕ) → i ≡ 0 → i ≡ 1 → ⊥
@@ -29,6 +30,8 @@ needed_once (product k l) G i m n (inr p) (inl o) = absurd (zero_or_one i o.0 p.
 needed_once (product k l) G i m n (inr p) (inr o) = pair_order_unique G k l m n p.1 o.1
 needed_once (compat k others) G i m n p o = line_order_unique G (point_of i k others) m n p.1 o.1
 needed_once (real k) G i m n p o = order_unique G k m n p.1 o.1
+needed_once (square k) G i m n p o = order_unique G k m n p.1 o.1
+needed_once (tensor f) G i m n p o = order_unique G origin m n p.1 o.1
 needed_once (site x k) G i m n p o = order_unique G k m n p.1 o.1
 needed_once (check r) G i m n p o = order_unique G r.wave m n p.1 o.1
 

@@ -11,7 +11,7 @@ use Rattle.irr_input.specs.declared.words.Command.{Command}
 use Rattle.irr_input.specs.declared.words.Command.TheVariants as commands
 use Rattle.irr_input.proofs.WaveTexts.{zero-text, zero_wave}
 use Rattle.irr_top.specs.Request.{BeginsServed, IsCommand, IsFaultyWord, IsServed}
-use Rattle.irr_top.specs.declared.request.Request.TheVariants.{Star, Small, Full, Product, Compat, Real, Site, Check}
+use Rattle.irr_top.specs.declared.request.Request.TheVariants.{Star, Small, Full, Product, Compat, Real, Square, Tensor, Site, Check}
 
 served_command : (words : List (List ℕ)) (c : Command) → AreWords words c → IsServed c → IsCommand words
 served_command words (commands.Star k) a v = (Star k, a)
@@ -21,8 +21,8 @@ served_command words (commands.Real k) a v = (Real k, a)
 served_command words (commands.Product k l) a v = (Product k l, a)
 served_command words (commands.Subduce k) a v = absurd v
 served_command words (commands.Compat k l m) a v = (Compat k l m, a)
-served_command words (commands.Square k) a v = absurd v
-served_command words (commands.Tensor f) a v = absurd v
+served_command words (commands.Square k) a v = (Square k, a)
+served_command words (commands.Tensor f) a v = (Tensor f, a)
 served_command words (commands.Site x k) a v = (Site x k, a)
 served_command words commands.Check a v = (Check, a)
 served_command words (commands.Gen n) a v = absurd v
@@ -35,7 +35,8 @@ same = pointwise nat_eq
 is_served : List ℕ → Bool
 is_served w = if same w (codes "star") then true else (if same w (codes "small") then true else (if same w (codes "full") then true
     else (if same w (codes "product") then true else (if same w (codes "compat") then true else (if same w (codes "real") then true
-    else (if same w (codes "site") then true else (if same w (codes "check") then true else false)))))))
+    else (if same w (codes "square") then true else (if same w (codes "tensor") then true else (if same w (codes "site") then true
+    else (if same w (codes "check") then true else false)))))))))
 
 served_word : (w : List ℕ) (ws : List (List ℕ)) → BeginsServed (w ∷ ws) → is_served w ≡ true
 unfolding is_served same
@@ -46,7 +47,9 @@ served_word w ws (inr (inr (inr (inl e)))) = ap is_served e
 served_word w ws (inr (inr (inr (inr (inl e))))) = ap is_served e
 served_word w ws (inr (inr (inr (inr (inr (inl e)))))) = ap is_served e
 served_word w ws (inr (inr (inr (inr (inr (inr (inl e))))))) = ap is_served e
-served_word w ws (inr (inr (inr (inr (inr (inr (inr e))))))) = ap is_served e
+served_word w ws (inr (inr (inr (inr (inr (inr (inr (inl e)))))))) = ap is_served e
+served_word w ws (inr (inr (inr (inr (inr (inr (inr (inr (inl e))))))))) = ap is_served e
+served_word w ws (inr (inr (inr (inr (inr (inr (inr (inr (inr e))))))))) = ap is_served e
 
 served_verb : (c : Command) → is_served (verb_word (verb_of c)) ≡ true → IsServed c
 unfolding is_served same
@@ -57,8 +60,8 @@ served_verb (commands.Real k) e = tt
 served_verb (commands.Product k l) e = tt
 served_verb (commands.Subduce k) e = cc
 served_verb (commands.Compat k l m) e = tt
-served_verb (commands.Square k) e = cc
-served_verb (commands.Tensor f) e = cc
+served_verb (commands.Square k) e = tt
+served_verb (commands.Tensor f) e = tt
 served_verb (commands.Site x k) e = tt
 served_verb commands.Check e = tt
 served_verb (commands.Gen n) e = cc
@@ -70,6 +73,8 @@ any_command words (Full k, a) = (commands.Full k, a)
 any_command words (Product k l, a) = (commands.Product k l, a)
 any_command words (Compat k l m, a) = (commands.Compat k l m, a)
 any_command words (Real k, a) = (commands.Real k, a)
+any_command words (Square k, a) = (commands.Square k, a)
+any_command words (Tensor f, a) = (commands.Tensor f, a)
 any_command words (Site x k, a) = (commands.Site x k, a)
 any_command words (Check, a) = (commands.Check, a)
 
@@ -84,6 +89,8 @@ begins [] (Full k, a) = let e : [] ≡ codes "full" ∷ a.behind = a.spelled in 
 begins [] (Product k l, a) = let e : [] ≡ codes "product" ∷ a.behind = a.spelled in cc
 begins [] (Compat k l m, a) = let e : [] ≡ codes "compat" ∷ a.behind = a.spelled in cc
 begins [] (Real k, a) = let e : [] ≡ codes "real" ∷ a.behind = a.spelled in cc
+begins [] (Square k, a) = let e : [] ≡ codes "square" ∷ a.behind = a.spelled in cc
+begins [] (Tensor f, a) = let e : [] ≡ codes "tensor" ∷ a.behind = a.spelled in cc
 begins [] (Site x k, a) = let e : [] ≡ codes "site" ∷ a.behind = a.spelled in cc
 begins [] (Check, a) = let e : [] ≡ codes "check" ∷ a.behind = a.spelled in cc
 begins (first ∷ ws) (Star k, a) = inl (first_word first ws (commands.Star k) a)
@@ -92,8 +99,10 @@ begins (first ∷ ws) (Full k, a) = inr (inr (inl (first_word first ws (commands
 begins (first ∷ ws) (Product k l, a) = inr (inr (inr (inl (first_word first ws (commands.Product k l) a))))
 begins (first ∷ ws) (Compat k l m, a) = inr (inr (inr (inr (inl (first_word first ws (commands.Compat k l m) a)))))
 begins (first ∷ ws) (Real k, a) = inr (inr (inr (inr (inr (inl (first_word first ws (commands.Real k) a))))))
-begins (first ∷ ws) (Site x k, a) = inr (inr (inr (inr (inr (inr (inl (first_word first ws (commands.Site x k) a)))))))
-begins (first ∷ ws) (Check, a) = inr (inr (inr (inr (inr (inr (inr (first_word first ws commands.Check a)))))))
+begins (first ∷ ws) (Square k, a) = inr (inr (inr (inr (inr (inr (inl (first_word first ws (commands.Square k) a)))))))
+begins (first ∷ ws) (Tensor f, a) = inr (inr (inr (inr (inr (inr (inr (inl (first_word first ws (commands.Tensor f) a))))))))
+begins (first ∷ ws) (Site x k, a) = inr (inr (inr (inr (inr (inr (inr (inr (inl (first_word first ws (commands.Site x k) a)))))))))
+begins (first ∷ ws) (Check, a) = inr (inr (inr (inr (inr (inr (inr (inr (inr (first_word first ws commands.Check a)))))))))
 
 served_first : (first : List ℕ) (ws : List (List ℕ)) (c : Command) → BeginsServed (first ∷ ws) → AreWords (first ∷ ws) c → IsServed c
 served_first first ws c b a = served_verb c (ap is_served (sym (first_word first ws c a)) ∙ served_word first ws b)

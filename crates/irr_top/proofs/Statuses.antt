@@ -10,7 +10,7 @@ use Rattle.irr_check.specs.declared.verdict.Verdict.{Verdict}
 use Rattle.irr_check.specs.declared.verdict.Verdict.TheVariants.{No, Yes}
 use Rattle.irr_top.specs.CheckCommand.{verdict_status}
 use Rattle.irr_top.specs.Question.{Question}
-use Rattle.irr_top.specs.Question.Question.{star, small, full, product, compat, real, site, check}
+use Rattle.irr_top.specs.Question.Question.{star, small, full, product, compat, real, square, tensor, site, check}
 use Rattle.irr_top.specs.Answer.{AsksOfGroup, IsReply}
 use Rattle.irr_top.specs.Answer.AsksOfGroup.{order_too_large, reply}
 use Rattle.irr_top.specs.Asked.{Asks, AsksOfBytes, AsksOfLines, AsksOfInput, AsksOfGenerators}
@@ -42,6 +42,8 @@ reply_no_failure (full k) G s text a h = subst IsFailure a.0 h
 reply_no_failure (product k l) G s text a h = subst IsFailure a.0 h
 reply_no_failure (compat k others) G s text a h = subst IsFailure a.0 h
 reply_no_failure (real k) G s text a h = subst IsFailure a.0 h
+reply_no_failure (square k) G s text a h = subst IsFailure a.0 h
+reply_no_failure (tensor f) G s text a h = subst IsFailure a.0 h
 reply_no_failure (site x k) G s text a h = subst IsFailure a.0 h
 reply_no_failure (check r) G s text a h = verdict_no_failure a.verdict (subst IsFailure a.is_status h)
 

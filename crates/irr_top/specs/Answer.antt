@@ -10,13 +10,15 @@ use Rattle.std.specs.Prelude.{ℕ, ◌<◌, ◌≤◌, List}
 use Rattle.irr_cyc.specs.declared.orders.TheConstants.{ORDER_LIMIT}
 use Rattle.irr_space.specs.Operation.{Operation}
 use Rattle.irr_top.specs.Question.{Question, IsNeededOrder}
-use Rattle.irr_top.specs.Question.Question.{star, small, full, product, compat, real, site, check}
+use Rattle.irr_top.specs.Question.Question.{star, small, full, product, compat, real, square, tensor, site, check}
 use Rattle.irr_top.specs.StarCommand.{IsStarReply}
 use Rattle.irr_top.specs.SmallCommand.{IsSmallReply}
 use Rattle.irr_top.specs.FullCommand.{IsFullReply}
 use Rattle.irr_top.specs.ProductCommand.{IsProductReply}
 use Rattle.irr_top.specs.CompatCommand.{IsCompatReply}
 use Rattle.irr_top.specs.RealCommand.{IsRealReply}
+use Rattle.irr_top.specs.SquareCommand.{IsSquareReply}
+use Rattle.irr_top.specs.TensorCommand.{IsTensorReply}
 use Rattle.irr_top.specs.SiteCommand.{IsSiteReply}
 use Rattle.irr_top.specs.CheckCommand.{IsCheckReply}
 use Rattle.irr_top.specs.RefusalText.{refusal_text}
@@ -37,6 +39,8 @@ IsReply (full k) G s text = IsFullReply G k s text
 IsReply (product k l) G s text = IsProductReply G k l s text
 IsReply (compat k others) G s text = IsCompatReply G k others s text
 IsReply (real k) G s text = IsRealReply G k s text
+IsReply (square k) G s text = IsSquareReply G k s text
+IsReply (tensor f) G s text = IsTensorReply G f s text
 IsReply (site x k) G s text = IsSiteReply G x k s text
 IsReply (check r) G s text = IsCheckReply G r s text
 

@@ -9,6 +9,8 @@ pub mod FullCommand
 pub mod ProductCommand
 pub mod CompatCommand
 pub mod RealCommand
+pub mod SquareCommand
+pub mod TensorCommand
 pub mod SiteCommand
 pub mod CheckCommand
 pub mod Answer

@@ -1,8 +1,8 @@
 -- What a command asks of a group of operations, with all that the words and the input say of it.
 --   Question                 the star of a wave vector, the small or the full representations at one, the direct
 --                            products of the full ones at two, the compatibility relations of a first point and others,
---                            the types of the full ones, the sites of a point and what they bring to a wave vector, or the
---                            verdict on a report
+--                            the types of the full ones, their squares, the tensors of a form, the sites of a point and what
+--                            they bring to a wave vector, or the verdict on a report
 --   question_of r report     what a request asks, on an input with this report or none; nothing where the input lacks
 --                            the section that the command needs
 --   IsNeededOrder q G i n    the i-th order of numbers that the answer needs, in the group G, is n: i counts from 0
@@ -12,11 +12,13 @@ use Rattle.irr_space.specs.Reciprocal.{IsOrder}
 use Rattle.irr_text.specs.ReportText.{ReportContent}
 use Rattle.irr_rat.specs.VectorMeaning.{vector}
 use Rattle.irr_kvec.specs.WaveMeaning.{wave_vector}
+use Rattle.irr_input.specs.declared.form.Form.{Form}
 use Rattle.irr_line.specs.LineGroup.{IsLineOrder}
 use Rattle.irr_product.specs.Products.{IsPairOrder}
+use Rattle.irr_power.specs.Tensors.{origin}
 use Rattle.irr_top.specs.CompatCommand.{other_points, point_of}
 use Rattle.irr_top.specs.declared.request.Request.{Request}
-use Rattle.irr_top.specs.declared.request.Request.TheVariants.{Star, Small, Full, Product, Compat, Real, Site, Check}
+use Rattle.irr_top.specs.declared.request.Request.TheVariants.{Star, Small, Full, Product, Compat, Real, Square, Tensor, Site, Check}
 
 pub data Question : Type 0 where
   star : WaveVector → Question
@@ -25,6 +27,8 @@ pub data Question : Type 0 where
   product : WaveVector → WaveVector → Question
   compat : WaveVector → List WaveVector → Question
   real : WaveVector → Question
+  square : WaveVector → Question
+  tensor : Form → Question
   site : Vector → WaveVector → Question
   check : ReportContent → Question
 
@@ -35,6 +39,8 @@ question_of (Full k) report = Some (full (wave_vector k))
 question_of (Product k l) report = Some (product (wave_vector k) (wave_vector l))
 question_of (Compat k l m) report = Some (compat (wave_vector k) (map wave_vector (other_points l m)))
 question_of (Real k) report = Some (real (wave_vector k))
+question_of (Square k) report = Some (square (wave_vector k))
+question_of (Tensor f) report = Some (tensor f)
 question_of (Site x k) report = Some (site (vector x) (wave_vector k))
 question_of Check None = None
 question_of Check (Some r) = Some (check r)
@@ -46,5 +52,7 @@ IsNeededOrder (full k) G i n = (i ≡ 0) × IsOrder G k n
 IsNeededOrder (product k l) G i n = ((i ≡ 0) × IsOrder G k n) ⊎ ((i ≡ 1) × IsPairOrder G k l n)
 IsNeededOrder (compat k others) G i n = (i ≤ length others) × IsLineOrder G (point_of i k others) n
 IsNeededOrder (real k) G i n = (i ≡ 0) × IsOrder G k n
+IsNeededOrder (square k) G i n = (i ≡ 0) × IsOrder G k n
+IsNeededOrder (tensor f) G i n = (i ≡ 0) × IsOrder G origin n
 IsNeededOrder (site x k) G i n = (i ≡ 0) × IsOrder G k n
 IsNeededOrder (check r) G i n = (i ≡ 0) × IsOrder G r.wave n

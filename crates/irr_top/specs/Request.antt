@@ -11,7 +11,7 @@ use Rattle.irr_input.specs.Command.{AreWords, IsFaulty}
 use Rattle.irr_input.specs.declared.words.Command.{Command}
 use Rattle.irr_input.specs.declared.words.Command.TheVariants as commands
 use Rattle.irr_top.specs.declared.request.Request.{Request}
-use Rattle.irr_top.specs.declared.request.Request.TheVariants.{Star, Small, Full, Product, Compat, Real, Site, Check}
+use Rattle.irr_top.specs.declared.request.Request.TheVariants.{Star, Small, Full, Product, Compat, Real, Square, Tensor, Site, Check}
 
 abbrev pub command_of : Request → Command
 command_of (Star k) = commands.Star k
@@ -20,6 +20,8 @@ command_of (Full k) = commands.Full k
 command_of (Product k l) = commands.Product k l
 command_of (Compat k l m) = commands.Compat k l m
 command_of (Real k) = commands.Real k
+command_of (Square k) = commands.Square k
+command_of (Tensor f) = commands.Tensor f
 command_of (Site x k) = commands.Site x k
 command_of Check = commands.Check
 
@@ -31,8 +33,8 @@ IsServed (commands.Real k) = Unit {0}
 IsServed (commands.Product k l) = Unit {0}
 IsServed (commands.Subduce k) = ⊥
 IsServed (commands.Compat k l m) = Unit {0}
-IsServed (commands.Square k) = ⊥
-IsServed (commands.Tensor f) = ⊥
+IsServed (commands.Square k) = Unit {0}
+IsServed (commands.Tensor f) = Unit {0}
 IsServed (commands.Site x k) = Unit {0}
 IsServed commands.Check = Unit {0}
 IsServed (commands.Gen n) = ⊥
@@ -46,8 +48,8 @@ IsCommand words = (r : Request) × IsRequested words r
 abbrev pub BeginsServed : List (List ℕ) → Type 0
 BeginsServed [] = ⊥
 BeginsServed (w ∷ ws) = (w ≡ codes "star") ⊎ ((w ≡ codes "small") ⊎ ((w ≡ codes "full")
-    ⊎ ((w ≡ codes "product") ⊎ ((w ≡ codes "compat") ⊎ ((w ≡ codes "real") ⊎ ((w ≡ codes "site")
-    ⊎ (w ≡ codes "check")))))))
+    ⊎ ((w ≡ codes "product") ⊎ ((w ≡ codes "compat") ⊎ ((w ≡ codes "real") ⊎ ((w ≡ codes "square") ⊎ ((w ≡ codes "tensor")
+    ⊎ ((w ≡ codes "site") ⊎ (w ≡ codes "check")))))))))
 
 abbrev pub IsFaultyWord : List (List ℕ) → ℕ → Type 0
 IsFaultyWord words n = IsFaulty IsCommand words n

@@ -10,9 +10,9 @@ use Rattle.irr_report.specs.Content.{content_of}
 use Rattle.irr_report.specs.Limits.{IsWithinLimits as IsLimitedReport}
 use Rattle.irr_top.specs.CompatCommand.{other_points}
 use Rattle.irr_top.specs.Question.{Question}
-use Rattle.irr_top.specs.Question.Question.{star, small, full, product, compat, real, site, check}
+use Rattle.irr_top.specs.Question.Question.{star, small, full, product, compat, real, square, tensor, site, check}
 use Rattle.irr_top.specs.declared.task.Task.{Task}
-use Rattle.irr_top.specs.declared.task.Task.TheVariants.{Star, Small, Full, Product, Compat, Real, Site, Check}
+use Rattle.irr_top.specs.declared.task.Task.TheVariants.{Star, Small, Full, Product, Compat, Real, Square, Tensor, Site, Check}
 
 abbrev pub asked_by : Task → Question
 asked_by (Star k) = star (wave_vector k)
@@ -21,6 +21,8 @@ asked_by (Full k) = full (wave_vector k)
 asked_by (Product k l) = product (wave_vector k) (wave_vector l)
 asked_by (Compat k l m) = compat (wave_vector k) (map wave_vector (other_points l m))
 asked_by (Real k) = real (wave_vector k)
+asked_by (Square k) = square (wave_vector k)
+asked_by (Tensor f) = tensor f
 asked_by (Site x k) = site (vector x) (wave_vector k)
 asked_by (Check r) = check (content_of r)
 
@@ -31,5 +33,7 @@ IsLimited (Full k) = IsWithinLimits k
 IsLimited (Product k l) = IsWithinLimits k × IsWithinLimits l
 IsLimited (Compat k l m) = IsWithinLimits k × IsWithinLimits l × IfSome m IsWithinLimits
 IsLimited (Real k) = IsWithinLimits k
+IsLimited (Square k) = IsWithinLimits k
+IsLimited (Tensor f) = Unit {0}
 IsLimited (Site x k) = IsSmallPoint x × IsWithinLimits k
 IsLimited (Check r) = IsLimitedReport r

@@ -25,9 +25,11 @@ use crate::reply::{NoReply, Reply};
 use crate::request::Request;
 use crate::site::site_reply;
 use crate::small::small_reply;
+use crate::square::square_reply;
 use crate::star::star_reply;
 use crate::status::{Kind, Status};
 use crate::task::{Number, Task, task_of};
+use crate::tensor::tensor_reply;
 use irr_close::{CloseError, Group, close};
 use irr_input::{GenLine, Input, InputError, Reason, read_input};
 use irr_io::{InFault, Sink, Source, read_all};
@@ -185,6 +187,8 @@ fn reply_of(alloc: Global, task: &Task, group: &Group) -> Result<Reply, NoReply>
         Task::Product(first, second) => product_reply(alloc, group, first, second),
         Task::Compat(first, second, third) => compat_reply(alloc, group, first, second, third),
         Task::Real(wave) => real_reply(alloc, group, wave),
+        Task::Square(wave) => square_reply(alloc, group, wave),
+        Task::Tensor(form) => tensor_reply(alloc, group, *form),
         Task::Site(point, wave) => site_reply(alloc, group, point, wave),
         Task::Check(report) => check_reply(alloc, group, report),
     }

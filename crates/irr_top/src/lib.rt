@@ -14,9 +14,11 @@ mod report;
 mod request;
 mod site;
 mod small;
+mod square;
 mod star;
 mod status;
 mod task;
+mod tensor;
 mod top;
 
 pub use check::text_verdict;

@@ -3,7 +3,7 @@ ghost use Rattle.std.specs.Prelude.{◌≡◌, ◌↔◌, IfOk, IfErr, IfSome, I
 ghost use Rattle.irr_input.specs.Command.{texts, AreLimited};
 ghost use Rattle.irr_top.specs.Request.{command_of, BeginsServed, IsFaultyWord, IsServed, IsRequested};
 
-use irr_input::{Command, Usage, read_words};
+use irr_input::{Command, Form, Usage, read_words};
 use irr_kvec::Wave;
 use irr_rat::Vec3;
 
@@ -22,6 +22,10 @@ pub(crate) enum Request {
     Compat(Wave, Wave, Option<Wave>),
     /// The types of the full representations.
     Real(Wave),
+    /// The squares of the full representations.
+    Square(Wave),
+    /// The tensors of a form.
+    Tensor(Form),
     /// The sites of a point, and what they bring to a wave vector.
     Site(Vec3, Wave),
     /// The verdict on the input's report.
@@ -56,10 +60,11 @@ fn request_of(command: Command) -> Option<Request>
         Command::Product(first, second) => Some(Request::Product(first, second)),
         Command::Compat(first, second, third) => Some(Request::Compat(first, second, third)),
         Command::Real(wave) => Some(Request::Real(wave)),
+        Command::Square(wave) => Some(Request::Square(wave)),
+        Command::Tensor(form) => Some(Request::Tensor(form)),
         Command::Site(point, wave) => Some(Request::Site(point, wave)),
         Command::Check => Some(Request::Check),
-        Command::Subduce(_) | Command::Square(_) | Command::Tensor(_) => None,
-        Command::Gen(_) => None,
+        Command::Subduce(_) | Command::Gen(_) => None,
     }
 }
 
@@ -70,7 +75,16 @@ fn begins_served(words: &[Vec<u8>]) -> bool
     match words.split_first() {
         Some((first, _)) => matches!(
             first.as_slice(),
-            b"star" | b"small" | b"full" | b"product" | b"compat" | b"real" | b"site" | b"check"
+            b"star"
+                | b"small"
+                | b"full"
+                | b"product"
+                | b"compat"
+                | b"real"
+                | b"square"
+                | b"tensor"
+                | b"site"
+                | b"check"
         ),
         None => false,
     }

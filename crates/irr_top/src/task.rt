@@ -8,6 +8,7 @@ ghost use Rattle.irr_top.specs.Question.{question_of};
 ghost use Rattle.irr_top.specs.Task.{asked_by, IsLimited};
 
 use crate::request::Request;
+use irr_input::Form;
 use irr_kvec::Wave;
 use irr_rat::Vec3;
 use irr_report::Report;
@@ -31,6 +32,10 @@ pub(crate) enum Task {
     Compat(Wave, Wave, Option<Wave>),
     /// The types of the full representations at a wave vector.
     Real(Wave),
+    /// The squares of the full representations at a wave vector.
+    Square(Wave),
+    /// The tensors of a form.
+    Tensor(Form),
     /// The sites of a point, and what they bring to a wave vector.
     Site(Vec3, Wave),
     /// The verdict on a report.
@@ -52,6 +57,8 @@ pub(crate) fn task_of(request: &Request, report: Option<Report<Number>>) -> Opti
         Request::Product(first, second) => Some(Task::Product(*first, *second)),
         Request::Compat(first, second, third) => Some(Task::Compat(*first, *second, *third)),
         Request::Real(wave) => Some(Task::Real(*wave)),
+        Request::Square(wave) => Some(Task::Square(*wave)),
+        Request::Tensor(form) => Some(Task::Tensor(*form)),
         Request::Site(point, wave) => Some(Task::Site(*point, *wave)),
         Request::Check => match report {
             Some(report) => Some(Task::Check(report)),

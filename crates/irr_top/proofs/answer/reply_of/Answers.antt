@@ -30,6 +30,14 @@ pub returns-in-Real-clause-none : goal.returns-in-Real-clause-none
 returns-in-Real-clause-none c = λ gens is. subst (λ (t : Task). IfErr c.real_reply.result (IsNoReply (asked_by t) (group_of gens)))
     (sym c.in-Real.is) (c.real_reply.ensures.none gens is)
 
+pub returns-in-Square-clause-none : goal.returns-in-Square-clause-none
+returns-in-Square-clause-none c = λ gens is. subst (λ (t : Task). IfErr c.square_reply.result (IsNoReply (asked_by t) (group_of gens)))
+    (sym c.in-Square.is) (c.square_reply.ensures.none gens is)
+
+pub returns-in-Tensor-clause-none : goal.returns-in-Tensor-clause-none
+returns-in-Tensor-clause-none c = λ gens is. subst (λ (t : Task). IfErr c.tensor_reply.result (IsNoReply (asked_by t) (group_of gens)))
+    (sym c.in-Tensor.is) (c.tensor_reply.ensures.none gens is)
+
 pub returns-in-Site-clause-none : goal.returns-in-Site-clause-none
 returns-in-Site-clause-none c = λ gens is. subst (λ (t : Task). IfErr c.site_reply.result (IsNoReply (asked_by t) (group_of gens)))
     (sym c.in-Site.is) (c.site_reply.ensures.none gens is)
