@@ -1,0 +1,17 @@
+pub mod SubgroupImages
+pub mod Columns
+pub mod Memberships
+pub mod Refusals
+pub mod Periods
+pub mod ReciprocalTests
+pub mod RestrictedOrders
+pub mod RestrictedClasses
+pub mod Texts
+pub mod ImageSizes
+pub mod ArmSizes
+pub mod PartSums
+pub mod HasExponents
+pub mod OperationImages
+pub mod ArmListings
+pub mod RestrictedRows
+pub mod RestrictedEntries
