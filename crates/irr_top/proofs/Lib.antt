@@ -6,12 +6,14 @@ pub mod Groups
 pub mod Outcomes
 pub mod Orders
 pub mod Statuses
+pub mod MadeRequests
 pub mod SameGenerators
 pub mod Along
 pub mod Judgements
 pub mod Members
 pub mod ModestLists
 pub mod SmallTexts
+pub mod SummaryTexts
 pub mod Reports
 pub mod RequestWords
 pub mod FirstPieces

@@ -1,5 +1,6 @@
 -- Words and bytes ask for one status: so does each stage.
 --   asked_once       the status
+--   reads_made       a command that reads an input has no number of a made one
 use Rattle.std.proofs.Common.{◌≡◌, ◌≢◌, refl, sym, ◌∙◌, ap, ap₂, subst, ℕ, ◌+◌, Bool, nat_eq, List, [], ◌∷◌, Option, Some, None, length}
 use Rattle.std.specs.Prelude.{codes, if◌then◌else◌}
 use lib.Pointwise.{pointwise}
@@ -9,6 +10,8 @@ use Rattle.irr_space.specs.Reciprocal.Sign.{minus}
 use Rattle.irr_text.specs.ReportText.{ReportContent}
 use Rattle.irr_seitz.specs.declared.op.Op.{Op}
 use Rattle.irr_kvec.specs.WaveMeaning.{wave_vector}
+use Rattle.irr_gen.specs.MadeInput.{IsMadeInput, made_wave}
+use Rattle.irr_gen.proofs.OneInput.{one_text}
 use Rattle.irr_input.specs.Command.{AreOneCommand, Argument, arguments_of, verb_of, verb_word}
 use Rattle.irr_input.specs.Command.Argument.{wave, point, form, number}
 use Rattle.irr_input.specs.InputLines.{IsInput, HasLines}
@@ -29,18 +32,18 @@ use Rattle.irr_check.proofs.OneVerdict.{one_verdict}
 use Rattle.irr_top.specs.GroupOf.{group_of}
 use Rattle.irr_top.specs.CheckCommand.{verdict_status}
 use Rattle.irr_top.specs.Question.{Question, question_of}
-use Rattle.irr_top.specs.Question.Question.{star, small, full, product, compat, real, square, tensor, site, check}
+use Rattle.irr_top.specs.Question.Question.{star, small, full, product, compat, real, square, tensor, site, check, summary}
 use Rattle.irr_top.specs.Answer.{AsksOfGroup, IsReply, order_limit}
 use Rattle.irr_top.specs.Answer.AsksOfGroup.{order_too_large, reply}
-use Rattle.irr_top.specs.Asked.{Asks, AsksOfBytes, AsksOfLines, AsksOfInput, AsksOfGenerators, input_limit, operations_of, passed_limit}
+use Rattle.irr_top.specs.Asked.{Asks, AsksOfRequest, IsInputOf, AsksOfBytes, AsksOfLines, AsksOfInput, AsksOfGenerators, input_limit, operations_of, passed_limit}
 use Rattle.irr_top.specs.Asked.AsksOfGenerators.{refused, group}
 use Rattle.irr_top.specs.Asked.AsksOfInput.{missing, question}
 use Rattle.irr_top.specs.Asked.AsksOfLines.{faulty_line, limited_line, input}
 use Rattle.irr_top.specs.Asked.AsksOfBytes.{too_long, lines}
 use Rattle.irr_top.specs.Asked.Asks.{faulty_word, request}
-use Rattle.irr_top.specs.Request.{command_of, IsCommand}
+use Rattle.irr_top.specs.Request.{command_of, made_number, IsCommand, IsRequested, ReadsInput}
 use Rattle.irr_top.specs.declared.request.Request.{Request}
-use Rattle.irr_top.specs.declared.request.Request.TheVariants.{Star, Small, Full, Product, Compat, Real, Square, Tensor, Site, Check}
+use Rattle.irr_top.specs.declared.request.Request.TheVariants.{Star, Small, Full, Product, Compat, Real, Square, Tensor, Site, Check, Gen}
 use Rattle.irr_top.specs.declared.status.Status.{Status}
 use Rattle.irr_top.specs.declared.status.Status.TheVariants.{Usage, BadInput, TooLarge}
 use Rattle.irr_top.specs.declared.status.Kind.{Kind}
@@ -62,6 +65,7 @@ reply_once (real k) G s t x y a b = a.0 ∙ sym b.0
 reply_once (square k) G s t x y a b = a.0 ∙ sym b.0
 reply_once (tensor f) G s t x y a b = a.0 ∙ sym b.0
 reply_once (site p k) G s t x y a b = a.0 ∙ sym b.0
+reply_once (summary n m k) G s t x y a b = a.0 ∙ sym b.0
 reply_once (check r) G s t x y a b = a.is_status ∙ ap verdict_status (one_verdict meaning minus G r a.is_verdict b.is_verdict) ∙ sym b.is_status
 
 group_once : (q : Question) (G : Operation → Type 0) {s t : Status} {x y : List ℕ} → AsksOfGroup q G s x
@@ -161,6 +165,13 @@ waves_at (point x ∷ args) = waves_at args
 waves_at (form f ∷ args) = waves_at args
 waves_at (number n ∷ args) = waves_at args
 
+number_at : List Argument → ℕ
+number_at [] = 0
+number_at (wave k ∷ args) = 0
+number_at (point x ∷ args) = 0
+number_at (form f ∷ args) = 0
+number_at (number n ∷ args) = n
+
 verdict : Option ReportContent → Option Question
 verdict None = None
 verdict (Some r) = Some (check r)
@@ -168,8 +179,8 @@ verdict (Some r) = Some (check r)
 is_word : List ℕ → List ℕ → Bool
 is_word = pointwise nat_eq
 
-asks : List ℕ → List Argument → Option ReportContent → Option Question
-asks w args c = if is_word w (codes "star") then Some (star (wave_at args))
+asks : List ℕ → List Argument → Option ReportContent → ℕ → Option Question
+asks w args c n = if is_word w (codes "star") then Some (star (wave_at args))
     else (if is_word w (codes "small") then Some (small (wave_at args))
     else (if is_word w (codes "full") then Some (full (wave_at args))
     else (if is_word w (codes "product") then Some (product (wave_at args) (wave_at (others args)))
@@ -178,41 +189,68 @@ asks w args c = if is_word w (codes "star") then Some (star (wave_at args))
     else (if is_word w (codes "square") then Some (square (wave_at args))
     else (if is_word w (codes "tensor") then Some (tensor (form_at args))
     else (if is_word w (codes "site") then Some (site (point_at args) (wave_at (others args)))
-    else verdict c))))))))
+    else (if is_word w (codes "check") then verdict c
+    else Some (summary (number_at args) n (made_wave (number_at args))))))))))))
 
-asks_of : (r : Request) (c : Option ReportContent)
-    → asks (verb_word (verb_of (command_of r))) (arguments_of (command_of r)) c ≡ question_of r c
-unfolding asks is_word wave_at waves_at form_at point_at others verdict
-asks_of (Star k) c = refl
-asks_of (Small k) c = refl
-asks_of (Full k) c = refl
-asks_of (Product k l) c = refl
-asks_of (Compat k l None) c = refl
-asks_of (Compat k l (Some m)) c = refl
-asks_of (Real k) c = refl
-asks_of (Square k) c = refl
-asks_of (Tensor f) c = refl
-asks_of (Site x k) c = refl
-asks_of Check None = refl
-asks_of Check (Some r) = refl
+asks_of : (r : Request) (c : Option ReportContent) (n : ℕ)
+    → asks (verb_word (verb_of (command_of r))) (arguments_of (command_of r)) c n ≡ question_of r c n
+unfolding asks is_word wave_at waves_at form_at point_at number_at others verdict
+asks_of (Star k) c n = refl
+asks_of (Small k) c n = refl
+asks_of (Full k) c n = refl
+asks_of (Product k l) c n = refl
+asks_of (Compat k l None) c n = refl
+asks_of (Compat k l (Some m)) c n = refl
+asks_of (Real k) c n = refl
+asks_of (Square k) c n = refl
+asks_of (Tensor f) c n = refl
+asks_of (Site x k) c n = refl
+asks_of Check None n = refl
+asks_of Check (Some r) n = refl
+asks_of (Gen m) c n = refl
 
-question_once : (r q : Request) (c d : Option ReportContent) → AreOneCommand (command_of r) (command_of q) → c ≡ d
-    → question_of r c ≡ question_of q d
-question_once r q c d h e = sym (asks_of r c)
-    ∙ ap₂ (λ w args. asks w args c) (ap verb_word h.verb) h.arguments
-    ∙ ap (asks (verb_word (verb_of (command_of q))) (arguments_of (command_of q))) e
-    ∙ asks_of q d
+question_once : (r q : Request) (c d : Option ReportContent) (m n : ℕ) → AreOneCommand (command_of r) (command_of q) → c ≡ d → m ≡ n
+    → question_of r c m ≡ question_of q d n
+question_once r q c d m n h e f = sym (asks_of r c m)
+    ∙ ap₂ (λ w args. asks w args c m) (ap verb_word h.verb) h.arguments
+    ∙ ap₂ (asks (verb_word (verb_of (command_of q))) (arguments_of (command_of q))) e f
+    ∙ asks_of q d n
+
+-- the number of a made input, of the word of a command and its arguments
+made : List ℕ → List Argument → Option ℕ
+made w args = if is_word w (codes "gen") then Some (number_at args) else None
+
+made_of : (r : Request) → made (verb_word (verb_of (command_of r))) (arguments_of (command_of r)) ≡ made_number r
+unfolding made is_word number_at
+made_of (Star k) = refl
+made_of (Small k) = refl
+made_of (Full k) = refl
+made_of (Product k l) = refl
+made_of (Compat k l None) = refl
+made_of (Compat k l (Some m)) = refl
+made_of (Real k) = refl
+made_of (Square k) = refl
+made_of (Tensor f) = refl
+made_of (Site x k) = refl
+made_of Check = refl
+made_of (Gen n) = refl
+
+made_once : (r q : Request) → AreOneCommand (command_of r) (command_of q) → made_number r ≡ made_number q
+made_once r q h = sym (made_of r) ∙ ap₂ made (ap verb_word h.verb) h.arguments ∙ made_of q
+
+pub reads_made : (words : List (List ℕ)) (r : Request) → IsRequested words r → ReadsInput words → made_number r ≡ None
+reads_made words r is x = made_once r x.0 (words_unique words (command_of r) (command_of x.0) is x.1) ∙ x.2
 
 -- two readings of one input by one command
-module _ (r q : Request) (c d : Option ReportContent) (gens hens : List Op) (m n : ℕ) (one : question_of r c ≡ question_of q d)
+module _ (r q : Request) (c d : Option ReportContent) (gens hens : List Op) (m n : ℕ) (one : question_of r c m ≡ question_of q d n)
     (same : AreSame gens hens) (lines_same : m ≡ n) where
-  missing_or_not : {k : Question} → question_of r c ≡ None → question_of q d ≡ Some k → ⊥
+  missing_or_not : {k : Question} → question_of r c m ≡ None → question_of q d n ≡ Some k → ⊥
   missing_or_not {k} a b = let f : None ≡ Some k = sym a ∙ one ∙ b in cc
 
-  found_or_not : {k : Question} → question_of r c ≡ Some k → question_of q d ≡ None → ⊥
+  found_or_not : {k : Question} → question_of r c m ≡ Some k → question_of q d n ≡ None → ⊥
   found_or_not {k} a b = let f : Some k ≡ None = sym a ∙ one ∙ b in cc
 
-  same_question : (k l : Question) → question_of r c ≡ Some k → question_of q d ≡ Some l → k ≡ l
+  same_question : (k l : Question) → question_of r c m ≡ Some k → question_of q d n ≡ Some l → k ≡ l
   same_question k l a b = let f : Some k ≡ Some l = sym a ∙ one ∙ b in cc
 
   pub input_once : {s t : Status} {x y : List ℕ} → AsksOfInput r gens c m s x → AsksOfInput q hens d n t y → s ≡ t
@@ -230,8 +268,9 @@ module _ (r q : Request) (one : AreOneCommand (command_of r) (command_of q)) (by
       → AsksOfInput q (operations_of ls) d n t y → s ≡ t
   inputs_once ks ls c d m n i j h g a b =
       let both = input_unique bytes ks ls c d i j in
-      input_once r q c d (operations_of ks) (operations_of ls) m n (question_once r q c d one both.1) (same_operations ks ls both.0)
-      (line_count_once bytes m n h g) a b
+      let count : m ≡ n = line_count_once bytes m n h g in
+      input_once r q c d (operations_of ks) (operations_of ls) m n (question_once r q c d m n one both.1 count)
+      (same_operations ks ls both.0) count a b
 
   lines_once : {s t : Status} {x y : List ℕ} → AsksOfLines r bytes s x → AsksOfLines q bytes t y → s ≡ t
   lines_once (faulty_line {n = m} {reason = a} f) (faulty_line {n = n} {reason = b} g) =
@@ -251,9 +290,25 @@ module _ (r q : Request) (one : AreOneCommand (command_of r) (command_of q)) (by
   bytes_once (lines l a) (too_long h) = absurd (within_or_above (length bytes) input_limit l h)
   bytes_once (lines l a) (lines h b) = lines_once a b
 
+-- the input of a request
+input_of_once : (a b : Option ℕ) (bytes x y : List ℕ) → a ≡ b → IsInputOf a bytes x → IsInputOf b bytes y → x ≡ y
+input_of_once None None bytes x y e p o = p ∙ sym o
+input_of_once None (Some n) bytes x y e p o = absurd (let f : None ≡ Some n = e in cc)
+input_of_once (Some m) None bytes x y e p o = absurd (let f : Some m ≡ None = e in cc)
+input_of_once (Some m) (Some n) bytes x y e p o =
+    let same : m ≡ n = (let f : Some m ≡ Some n = e in cc) in
+    one_text n x y p.0 o.0 (subst (λ i. IsMadeInput i x p.0) same p.1) o.1
+
+request_once : (r q : Request) → AreOneCommand (command_of r) (command_of q) → (bytes : List ℕ) {s t : Status} {x y : List ℕ}
+    → AsksOfRequest r bytes s x → AsksOfRequest q bytes t y → s ≡ t
+request_once r q one bytes {s} {t} {x} {y} a b =
+    let same : b.input ≡ a.input = sym (input_of_once (made_number r) (made_number q) bytes a.input b.input (made_once r q one)
+    a.is_input b.is_input) in
+    bytes_once r q one a.input a.asks (subst (λ i. AsksOfBytes q i t y) same b.asks)
+
 pub asked_once : (words : List (List ℕ)) (bytes : List ℕ) {s t : Status} {x y : List ℕ} → Asks words bytes s x
     → Asks words bytes t y → s ≡ t
 asked_once words bytes (faulty_word {n = m} p) (faulty_word {n = n} q) = ap Usage (faulty_unique IsCommand words m n p q)
 asked_once words bytes (faulty_word p) (request r a b) = absurd (p.no_command (r, a))
 asked_once words bytes (request r a b) (faulty_word p) = absurd (p.no_command (r, a))
-asked_once words bytes (request r a b) (request q c d) = bytes_once r q (words_unique words (command_of r) (command_of q) a c) bytes b d
+asked_once words bytes (request r a b) (request q c d) = request_once r q (words_unique words (command_of r) (command_of q) a c) bytes b d

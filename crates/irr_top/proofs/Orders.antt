@@ -13,7 +13,7 @@ use Rattle.irr_product.proofs.PairOrders.{pair_order_unique}
 use Rattle.irr_power.specs.Tensors.{origin}
 use Rattle.irr_top.specs.CompatCommand.{point_of}
 use Rattle.irr_top.specs.Question.{Question, IsNeededOrder}
-use Rattle.irr_top.specs.Question.Question.{star, small, full, product, compat, real, square, tensor, site, check}
+use Rattle.irr_top.specs.Question.Question.{star, small, full, product, compat, real, square, tensor, site, check, summary}
 use Rattle.irr_top.specs.Answer.{IsTooLargeAt, order_limit}
 
 zero_or_one : (i : ℕ) → i ≡ 0 → i ≡ 1 → ⊥
@@ -34,6 +34,7 @@ needed_once (square k) G i m n p o = order_unique G k m n p.1 o.1
 needed_once (tensor f) G i m n p o = order_unique G origin m n p.1 o.1
 needed_once (site x k) G i m n p o = order_unique G k m n p.1 o.1
 needed_once (check r) G i m n p o = order_unique G r.wave m n p.1 o.1
+needed_once (summary number lines k) G i m n p o = order_unique G k m n p.1 o.1
 
 -- a number above a limit and within it
 pub within_or_above : (n limit : ℕ) → n ≤ limit → limit < n → ⊥

@@ -6,7 +6,6 @@
 use Rattle.std.proofs.Common.{◌≡◌, subst, ℕ, ◌⊎◌, inl, inr, Option, Some, List}
 use Rattle.irr_io.specs.Views.{SourceView, SinkView}
 use Rattle.irr_top.specs.Asked.{Asks}
-use Rattle.irr_top.specs.Asked.Asks.{faulty_word}
 use Rattle.irr_top.specs.Outcome.{Ended, Serves, IsAllOf, OutcomeOf, Outcome, IsOwed, IsFailure}
 use Rattle.irr_top.specs.Outcome.Ended.{whole, cut_off, no_memory}
 use Rattle.irr_top.specs.Outcome.Serves.{serves, without_memory}
@@ -32,7 +31,7 @@ pub outcome_more : {asks others : List ℕ → Status → List ℕ → Type 0} {
     → ((bytes : List ℕ) (s : Status) (text : List ℕ) → asks bytes s text → others bytes s text)
     → OutcomeOf asks source read sink written t
     → OutcomeOf others source read sink written t
-outcome_more f (answered bytes all s end) = answered bytes all (serves_more (f bytes) s) end
+outcome_more f (answered bytes all s) = answered bytes all (serves_more (f bytes) s)
 outcome_more f (read_fault r h) = read_fault r h
 
 module _ (words : List (List ℕ)) where
@@ -42,7 +41,7 @@ module _ (words : List (List ℕ)) where
   same_status : {source : SourceView} {s t : Status} {text : List ℕ} (all : List ℕ) → IsAllOf source.left all
       → Asks words all t text
       → IsOwed words source s → t ≡ s
-  same_status all h a (by_words p) = asked_once words all a (faulty_word p)
+  same_status all h a (by_words other f) = asked_once words all a (f all)
   same_status {source} {s} {t} {text} all h a (by_bytes bytes other e b) = asked_once words bytes
       (subst (λ l. Asks words l t text) (same_bytes source.left bytes all e h) a) b
 
@@ -61,7 +60,7 @@ module _ (words : List (List ℕ)) where
   outcome_owed : {source read : SourceView} {sink written : SinkView} {s t : Status}
       → OutcomeOf (Asks words) source read sink written t
       → IsOwed words source s → (t ≡ s) ⊎ IsFailure t
-  outcome_owed (answered all h s end) o = served_owed all h s o
+  outcome_owed (answered all h s) o = served_owed all h s o
   outcome_owed (read_fault r h) o = inr tt
 
   pub owed : {source read : SourceView} {sink written : SinkView} {s t : Status}

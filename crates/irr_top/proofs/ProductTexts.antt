@@ -3,12 +3,11 @@
 --   product_text_at        the text is that of the direct products
 --   product_reply_of       the text is the reply for the group of generators
 --   product_refused        of the orders that are needed, one is the first above the limit
-use Rattle.std.proofs.Common.{◌≡◌, ap, sym, subst, refl, ℕ, ◌<◌, ◌≤◌, inl, inr, List, map, arith}
+use Rattle.std.proofs.Common.{◌≡◌, ap, subst, refl, ℕ, ◌<◌, ◌≤◌, inl, inr, List, map, arith}
 use Rattle.std.proofs.lemmas.Nat.Gcd.{le_of_dvd}
 use Rattle.irr_space.specs.Operation.{Operation, WaveVector}
-use Rattle.irr_space.specs.Reciprocal.{AreEquivalent, IsOrder, IsReduced, Sign}
+use Rattle.irr_space.specs.Reciprocal.{IsOrder, IsReduced, Sign}
 use Rattle.irr_space.specs.Reciprocal.Sign.{minus}
-use Rattle.irr_cocycle.specs.SpaceGroupLaws.{IsGroup}
 use Rattle.irr_cocycle.proofs.Reciprocals.{equivalent_sym}
 use Rattle.irr_seitz.specs.PhaseMeaning.{sign_of}
 use Rattle.irr_seitz.specs.declared.op.Op.{Op}
@@ -29,9 +28,8 @@ use Rattle.irr_top.specs.ProductCommand.{IsProductReply, IsProductText}
 use Rattle.irr_top.specs.Question.{IsNeededOrder}
 use Rattle.irr_top.specs.Question.Question.{product}
 use Rattle.irr_top.specs.declared.status.Status.TheVariants.{Done}
-use Rattle.irr_top.proofs.Along.{reduced_along}
 use Rattle.irr_top.proofs.FullTexts.{reduced_through}
-use Rattle.irr_top.proofs.Groups.{is_group, order_at, period_at}
+use Rattle.irr_top.proofs.Groups.{is_group, period_at}
 use Rattle.irr_top.proofs.Orders.{within_or_above}
 use Rattle.irr_top.proofs.SmallTexts.{order_there}
 

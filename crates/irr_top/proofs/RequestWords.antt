@@ -11,7 +11,7 @@ use Rattle.irr_input.specs.declared.words.Command.{Command}
 use Rattle.irr_input.specs.declared.words.Command.TheVariants as commands
 use Rattle.irr_input.proofs.WaveTexts.{zero-text, zero_wave}
 use Rattle.irr_top.specs.Request.{BeginsServed, IsCommand, IsFaultyWord, IsServed}
-use Rattle.irr_top.specs.declared.request.Request.TheVariants.{Star, Small, Full, Product, Compat, Real, Square, Tensor, Site, Check}
+use Rattle.irr_top.specs.declared.request.Request.TheVariants.{Star, Small, Full, Product, Compat, Real, Square, Tensor, Site, Check, Gen}
 
 served_command : (words : List (List ℕ)) (c : Command) → AreWords words c → IsServed c → IsCommand words
 served_command words (commands.Star k) a v = (Star k, a)
@@ -25,7 +25,7 @@ served_command words (commands.Square k) a v = (Square k, a)
 served_command words (commands.Tensor f) a v = (Tensor f, a)
 served_command words (commands.Site x k) a v = (Site x k, a)
 served_command words commands.Check a v = (Check, a)
-served_command words (commands.Gen n) a v = absurd v
+served_command words (commands.Gen n) a v = (Gen n, a)
 
 -- the words of the commands that are served
 
@@ -36,7 +36,7 @@ is_served : List ℕ → Bool
 is_served w = if same w (codes "star") then true else (if same w (codes "small") then true else (if same w (codes "full") then true
     else (if same w (codes "product") then true else (if same w (codes "compat") then true else (if same w (codes "real") then true
     else (if same w (codes "square") then true else (if same w (codes "tensor") then true else (if same w (codes "site") then true
-    else (if same w (codes "check") then true else false)))))))))
+    else (if same w (codes "check") then true else (if same w (codes "gen") then true else false))))))))))
 
 served_word : (w : List ℕ) (ws : List (List ℕ)) → BeginsServed (w ∷ ws) → is_served w ≡ true
 unfolding is_served same
@@ -49,7 +49,8 @@ served_word w ws (inr (inr (inr (inr (inr (inl e)))))) = ap is_served e
 served_word w ws (inr (inr (inr (inr (inr (inr (inl e))))))) = ap is_served e
 served_word w ws (inr (inr (inr (inr (inr (inr (inr (inl e)))))))) = ap is_served e
 served_word w ws (inr (inr (inr (inr (inr (inr (inr (inr (inl e))))))))) = ap is_served e
-served_word w ws (inr (inr (inr (inr (inr (inr (inr (inr (inr e))))))))) = ap is_served e
+served_word w ws (inr (inr (inr (inr (inr (inr (inr (inr (inr (inl e)))))))))) = ap is_served e
+served_word w ws (inr (inr (inr (inr (inr (inr (inr (inr (inr (inr e)))))))))) = ap is_served e
 
 served_verb : (c : Command) → is_served (verb_word (verb_of c)) ≡ true → IsServed c
 unfolding is_served same
@@ -64,7 +65,7 @@ served_verb (commands.Square k) e = tt
 served_verb (commands.Tensor f) e = tt
 served_verb (commands.Site x k) e = tt
 served_verb commands.Check e = tt
-served_verb (commands.Gen n) e = cc
+served_verb (commands.Gen n) e = tt
 
 any_command : (words : List (List ℕ)) → IsCommand words → IsAnyCommand words
 any_command words (Star k, a) = (commands.Star k, a)
@@ -77,6 +78,7 @@ any_command words (Square k, a) = (commands.Square k, a)
 any_command words (Tensor f, a) = (commands.Tensor f, a)
 any_command words (Site x k, a) = (commands.Site x k, a)
 any_command words (Check, a) = (commands.Check, a)
+any_command words (Gen n, a) = (commands.Gen n, a)
 
 -- the first word of a command is that of its verb
 first_word : (first : List ℕ) (ws : List (List ℕ)) (c : Command) → AreWords (first ∷ ws) c → first ≡ verb_word (verb_of c)
@@ -93,6 +95,7 @@ begins [] (Square k, a) = let e : [] ≡ codes "square" ∷ a.behind = a.spelled
 begins [] (Tensor f, a) = let e : [] ≡ codes "tensor" ∷ a.behind = a.spelled in cc
 begins [] (Site x k, a) = let e : [] ≡ codes "site" ∷ a.behind = a.spelled in cc
 begins [] (Check, a) = let e : [] ≡ codes "check" ∷ a.behind = a.spelled in cc
+begins [] (Gen n, a) = let e : [] ≡ codes "gen" ∷ a.behind = a.spelled in cc
 begins (first ∷ ws) (Star k, a) = inl (first_word first ws (commands.Star k) a)
 begins (first ∷ ws) (Small k, a) = inr (inl (first_word first ws (commands.Small k) a))
 begins (first ∷ ws) (Full k, a) = inr (inr (inl (first_word first ws (commands.Full k) a)))
@@ -102,7 +105,8 @@ begins (first ∷ ws) (Real k, a) = inr (inr (inr (inr (inr (inl (first_word fir
 begins (first ∷ ws) (Square k, a) = inr (inr (inr (inr (inr (inr (inl (first_word first ws (commands.Square k) a)))))))
 begins (first ∷ ws) (Tensor f, a) = inr (inr (inr (inr (inr (inr (inr (inl (first_word first ws (commands.Tensor f) a))))))))
 begins (first ∷ ws) (Site x k, a) = inr (inr (inr (inr (inr (inr (inr (inr (inl (first_word first ws (commands.Site x k) a)))))))))
-begins (first ∷ ws) (Check, a) = inr (inr (inr (inr (inr (inr (inr (inr (inr (first_word first ws commands.Check a)))))))))
+begins (first ∷ ws) (Check, a) = inr (inr (inr (inr (inr (inr (inr (inr (inr (inl (first_word first ws commands.Check a))))))))))
+begins (first ∷ ws) (Gen n, a) = inr (inr (inr (inr (inr (inr (inr (inr (inr (inr (first_word first ws (commands.Gen n) a))))))))))
 
 served_first : (first : List ℕ) (ws : List (List ℕ)) (c : Command) → BeginsServed (first ∷ ws) → AreWords (first ∷ ws) c → IsServed c
 served_first first ws c b a = served_verb c (ap is_served (sym (first_word first ws c a)) ∙ served_word first ws b)

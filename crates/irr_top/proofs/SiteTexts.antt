@@ -7,7 +7,6 @@ use Rattle.std.proofs.Common.{◌≡◌, ap, sym, ◌∙◌, subst, refl, ℕ, �
 use Rattle.irr_space.specs.Operation.{Operation, Vector, WaveVector}
 use Rattle.irr_space.specs.Reciprocal.{IsOrder, IsReduced, Sign}
 use Rattle.irr_space.specs.Reciprocal.Sign.{minus}
-use Rattle.irr_rat.specs.VectorMeaning.{vector}
 use Rattle.irr_seitz.specs.PhaseMeaning.{sign_of}
 use Rattle.irr_seitz.specs.declared.op.Op.{Op}
 use Rattle.irr_seitz.specs.declared.phase.Phase.TheVariants.{Minus}

@@ -1,18 +1,21 @@
 -- The text of a report at a wave vector, from that on the table of the little group of its reduced wave vector.
 --   order_there        the order
 --   order_of_table     the order of the table is that of the wave vector
+--   report_of          a complete list on the table in canonical order gives a report
 --   small_text_of      a report
 --   table_steps        each subgroup of the table has a step
 --   small_reply_of     the text is the reply
 use Rattle.std.proofs.Common.{ap, subst, refl, ℕ, ◌≤◌, List}
 use Rattle.irr_algebra.specs.Fin.{Fin}
+use Rattle.irr_theory.specs.Representations.{Representations}
 use Rattle.irr_space.specs.Operation.{Operation, WaveVector}
 use Rattle.irr_space.specs.Reciprocal.{IsOrder, IsReduced}
 use Rattle.irr_space.specs.Reciprocal.Sign.{minus}
 use Rattle.irr_space.specs.CanonicalOperation.{IsNumbering}
 use Rattle.irr_space.specs.Star.{IsInLittleGroup}
-use Rattle.irr_space.specs.PhaseTable.{PhaseTable, IsTableOf}
-use Rattle.irr_text.specs.ReportText.{list_report}
+use Rattle.irr_space.specs.PhaseTable.{PhaseTable, IsTableOf, phases_at}
+use Rattle.irr_space.specs.CompleteList.{IsCompleteList, IsInOrder}
+use Rattle.irr_text.specs.ReportText.{list_report, IsReportOf}
 use Rattle.irr_seitz.specs.PhaseMeaning.{sign_of}
 use Rattle.irr_seitz.specs.declared.op.Op.{Op}
 use Rattle.irr_chain.specs.NormalSubgroup.{HasSteps}
@@ -42,7 +45,7 @@ module _ (group : Group) (gens : List Op) (is : IsGroupOf group gens) (k w : Wav
     pub some_operation : Op
     some_operation = some_item group.ops.items 0 (form_of group).nonempty
 
-    abbrev ops : Fin h → Operation
+    abbrev pub ops : Fin h → Operation
     ops = listed_operations group h xs some_operation
 
     numbering : IsNumbering (group_of gens) (IsInLittleGroup (group_of gens) w) ops
@@ -55,6 +58,22 @@ module _ (group : Group) (gens : List Op) (is : IsGroupOf group gens) (k w : Wav
     pub order_of_table : IsOrder (group_of gens) k T.order
     order_of_table = order_there T.order (table.table some_operation).is_order
 
+    pub report_of : (L : Representations (phases_at T)) → IsCompleteList T L → IsInOrder T L
+        → IsReportOf minus (group_of gens) k (list_report w ops T L)
+    report_of L complete in_order = record {
+      wave = w;
+      reduced = reduced;
+      places = h;
+      operation = ops;
+      numbering = numbering;
+      table = T;
+      is_table = is_table;
+      representations = L;
+      complete = complete;
+      in_order = in_order;
+      content = refl;
+    }
+
     pub small_text_of : (text : List ℕ) → ((d : Op) → IsListText w (listed_operations group h xs d) T text)
         → IsModestText gens k text
     small_text_of text all = let t = all some_operation in record {
@@ -62,19 +81,7 @@ module _ (group : Group) (gens : List Op) (is : IsGroupOf group gens) (k w : Wav
       is_order = order_of_table;
       within = within;
       content = list_report w ops T t.representations;
-      is_report = record {
-        wave = w;
-        reduced = reduced;
-        places = h;
-        operation = ops;
-        numbering = numbering;
-        table = T;
-        is_table = is_table;
-        representations = t.representations;
-        complete = t.complete;
-        in_order = t.in_order;
-        content = refl;
-      };
+      is_report = report_of t.representations t.complete t.in_order;
       modest = t.modest;
       is_text = t.is_text;
     }

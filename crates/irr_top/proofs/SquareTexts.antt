@@ -4,7 +4,7 @@
 --   square_text_at         the text is that of the squares
 --   square_reply_of        the text is the reply for the group of generators
 --   square_refused         the order is above the limit
-use Rattle.std.proofs.Common.{◌↔◌, ◌≡◌, ap, sym, subst, refl, ℕ, ◌<◌, ◌≤◌, List, map}
+use Rattle.std.proofs.Common.{◌↔◌, ◌≡◌, ap, subst, refl, ℕ, ◌<◌, ◌≤◌, List, map}
 use Rattle.irr_number.specs.Number.{numbers}
 use Rattle.irr_algebra.specs.Matrix.{Matrix}
 use Rattle.irr_space.specs.Operation.{Operation, WaveVector}

@@ -1,6 +1,8 @@
 -- What an outcome says, status by status.
 --   asked_status      what is asked for is no failure
---   outcome_answered, outcome_read_fault, outcome_write_fault, outcome_memory, outcome_done, outcome_usage    the clauses of the law
+--   outcome_answered, outcome_read_fault, outcome_write_fault, outcome_memory, outcome_done, outcome_unread,
+--   outcome_usage     the clauses of the law
+--   served_read       what serves a request ends with no failed read
 use Rattle.std.proofs.Common.{◌≡◌, sym, subst, refl, ℕ, ◌⊎◌, inl, inr, Option, List}
 use Rattle.irr_space.specs.Operation.{Operation}
 use Rattle.irr_seitz.specs.declared.op.Op.{Op}
@@ -10,16 +12,16 @@ use Rattle.irr_check.specs.declared.verdict.Verdict.{Verdict}
 use Rattle.irr_check.specs.declared.verdict.Verdict.TheVariants.{No, Yes}
 use Rattle.irr_top.specs.CheckCommand.{verdict_status}
 use Rattle.irr_top.specs.Question.{Question}
-use Rattle.irr_top.specs.Question.Question.{star, small, full, product, compat, real, square, tensor, site, check}
+use Rattle.irr_top.specs.Question.Question.{star, small, full, product, compat, real, square, tensor, site, check, summary}
 use Rattle.irr_top.specs.Answer.{AsksOfGroup, IsReply}
 use Rattle.irr_top.specs.Answer.AsksOfGroup.{order_too_large, reply}
-use Rattle.irr_top.specs.Asked.{Asks, AsksOfBytes, AsksOfLines, AsksOfInput, AsksOfGenerators}
+use Rattle.irr_top.specs.Asked.{Asks, AsksOfRequest, AsksOfBytes, AsksOfLines, AsksOfInput, AsksOfGenerators}
 use Rattle.irr_top.specs.Asked.AsksOfGenerators.{refused, group}
 use Rattle.irr_top.specs.Asked.AsksOfInput.{missing, question}
 use Rattle.irr_top.specs.Asked.AsksOfLines.{faulty_line, limited_line, input}
 use Rattle.irr_top.specs.Asked.AsksOfBytes.{too_long, lines}
 use Rattle.irr_top.specs.Asked.Asks.{faulty_word, request}
-use Rattle.irr_top.specs.Request.{IsCommand, IsFaultyWord}
+use Rattle.irr_top.specs.Request.{IsFaultyWord, ReadsInput}
 use Rattle.irr_top.specs.Outcome.{Ended, Serves, IsAllOf, OutcomeOf, Outcome, IsFailure}
 use Rattle.irr_top.specs.Outcome.Ended.{whole, cut_off, no_memory}
 use Rattle.irr_top.specs.Outcome.Serves.{serves, without_memory}
@@ -45,6 +47,7 @@ reply_no_failure (real k) G s text a h = subst IsFailure a.0 h
 reply_no_failure (square k) G s text a h = subst IsFailure a.0 h
 reply_no_failure (tensor f) G s text a h = subst IsFailure a.0 h
 reply_no_failure (site x k) G s text a h = subst IsFailure a.0 h
+reply_no_failure (summary n m k) G s text a h = subst IsFailure a.0 h
 reply_no_failure (check r) G s text a h = verdict_no_failure a.verdict (subst IsFailure a.is_status h)
 
 group_no_failure : (q : Question) (G : Operation → Type 0) {s : Status} {text : List ℕ} → AsksOfGroup q G s text
@@ -73,10 +76,14 @@ bytes_no_failure : {r : Request} {bytes : List ℕ} {s : Status} {text : List �
 bytes_no_failure (too_long l) h = h
 bytes_no_failure (lines l a) h = lines_no_failure a h
 
+request_no_failure : {r : Request} {bytes : List ℕ} {s : Status} {text : List ℕ} → AsksOfRequest r bytes s text
+    → IsFailure s → ⊥
+request_no_failure a h = bytes_no_failure a.asks h
+
 pub asked_status : {words : List (List ℕ)} {bytes : List ℕ} {s : Status} {text : List ℕ} → Asks words bytes s text
     → IsFailure s → ⊥
 asked_status (faulty_word f) h = h
-asked_status (request r is a) h = bytes_no_failure a h
+asked_status (request r is a) h = request_no_failure a h
 
 module _ (words : List (List ℕ)) (source read : SourceView) (sink written : SinkView) where
   abbrev Ends : Status → Type 0
@@ -98,7 +105,7 @@ module _ (words : List (List ℕ)) (source read : SourceView) (sink written : Si
   serves_answered bytes all (without_memory e) n = absurd (n tt)
 
   ends_answered : {t : Status} → Ends t → (IsFailure t → ⊥) → IsAnswered words source sink written t
-  ends_answered (answered bytes all s end) n = serves_answered bytes all s n
+  ends_answered (answered bytes all s) n = serves_answered bytes all s n
   ends_answered (read_fault r h) n = absurd (n tt)
 
   pub outcome_answered : {t : Status} → Outcome words source read sink written t → (IsFailure t → ⊥)
@@ -116,12 +123,12 @@ module _ (words : List (List ℕ)) (source read : SourceView) (sink written : Si
   serves_read bytes (without_memory h) f = let k : Memory ≡ ReadFault = f in cc
 
   ends_read : {t : Status} → Ends t → t ≡ ReadFault → ReadFailed source read × (written.held ≡ sink.held)
-  ends_read (answered bytes all s end) e = absurd (serves_read bytes s e)
+  ends_read (answered bytes all s) e = absurd (serves_read bytes s e)
   ends_read (read_fault r h) e = (r, h)
 
   pub outcome_read_fault : Outcome words source read sink written ReadFault
-      → IsCommand words × ReadFailed source read × (written.held ≡ sink.held)
-  outcome_read_fault o = let e = ends_read o.ends refl in (o.read_for_a_command refl, e.0, e.1)
+      → ReadsInput words × ReadFailed source read × (written.held ≡ sink.held)
+  outcome_read_fault o = let e = ends_read o.ends refl in (o.read_for_an_input refl, e.0, e.1)
 
   ended_write : {s t : Status} {text : List ℕ} (bytes : List ℕ) → IsAllOf source.left bytes → Asks words bytes s text
       → Ended s text sink written t → t ≡ WriteFault → WriteFailed sink written × IsCutOff words source sink written
@@ -137,7 +144,7 @@ module _ (words : List (List ℕ)) (source read : SourceView) (sink written : Si
   serves_write bytes all (without_memory h) f = absurd (let k : Memory ≡ WriteFault = f in cc)
 
   ends_write : {t : Status} → Ends t → t ≡ WriteFault → WriteFailed sink written × IsCutOff words source sink written
-  ends_write (answered bytes all s end) e = serves_write bytes all s e
+  ends_write (answered bytes all s) e = serves_write bytes all s e
   ends_write (read_fault r h) e = absurd (let k : ReadFault ≡ WriteFault = e in cc)
 
   pub outcome_write_fault : Outcome words source read sink written WriteFault
@@ -157,18 +164,17 @@ module _ (words : List (List ℕ)) (source read : SourceView) (sink written : Si
   serves_memory bytes (without_memory h) f = h
 
   ends_memory : {t : Status} → Ends t → t ≡ Memory → written.held ≡ sink.held
-  ends_memory (answered bytes all s end) e = serves_memory bytes s e
+  ends_memory (answered bytes all s) e = serves_memory bytes s e
   ends_memory (read_fault r h) e = h
 
   pub outcome_memory : Outcome words source read sink written Memory → written.held ≡ sink.held
   outcome_memory o = ends_memory o.ends refl
 
-  ends_done : {t : Status} → Ends t → t ≡ Done → IsAtEnd read
-  ends_done (answered bytes all s end) e = end e
-  ends_done (read_fault r h) e = absurd (let k : ReadFault ≡ Done = e in cc)
+  pub outcome_done : Outcome words source read sink written Done → ReadsInput words → IsAtEnd read
+  outcome_done o reads = o.at_end reads refl
 
-  pub outcome_done : Outcome words source read sink written Done → IsAtEnd read
-  outcome_done o = ends_done o.ends refl
+  pub outcome_unread : {t : Status} → Outcome words source read sink written t → ¬ (ReadsInput words) → read ≡ source
+  outcome_unread o n = o.unread n
 
   -- faulty words
   module _ (n : ℕ) (f : IsFaultyWord words n) where
@@ -184,11 +190,23 @@ module _ (words : List (List ℕ)) (source read : SourceView) (sink written : Si
     serves_usage bytes (serves a e) = ended_usage bytes a e
     serves_usage bytes (without_memory h) = inr (inl refl)
 
-    ends_usage : {t : Status} → Ends t → (t ≡ ReadFault → IsCommand words)
+    ends_usage : {t : Status} → Ends t → (t ≡ ReadFault → ReadsInput words)
         → (t ≡ Usage n) ⊎ ((t ≡ Memory) ⊎ (t ≡ WriteFault))
-    ends_usage (answered bytes all s end) c = serves_usage bytes s
-    ends_usage (read_fault r h) c = absurd (f.no_command (c refl))
+    ends_usage (answered bytes all s) c = serves_usage bytes s
+    ends_usage (read_fault r h) c = absurd (let reads = c refl in f.no_command (reads.0, reads.1))
 
     pub outcome_usage : {t : Status} → Outcome words source read sink written t
         → (t ≡ Usage n) ⊎ ((t ≡ Memory) ⊎ (t ≡ WriteFault))
-    outcome_usage o = ends_usage o.ends o.read_for_a_command
+    outcome_usage o = ends_usage o.ends o.read_for_an_input
+
+-- of what serves a request
+ended_no_read : {s t : Status} {text : List ℕ} {before after : SinkView} → (IsFailure s → ⊥) → Ended s text before after t
+    → t ≡ ReadFault → ⊥
+ended_no_read n (whole g w) e = n (subst IsFailure (sym e) tt)
+ended_no_read n (cut_off r g w) e = let k : WriteFault ≡ ReadFault = e in cc
+ended_no_read n (no_memory h) e = let k : Memory ≡ ReadFault = e in cc
+
+pub served_read : {r : Request} {bytes : List ℕ} {before after : SinkView} {t : Status} → Serves (AsksOfRequest r bytes) before after t
+    → t ≡ ReadFault → ⊥
+served_read (serves a e) f = ended_no_read (request_no_failure a) e f
+served_read (without_memory h) f = let k : Memory ≡ ReadFault = f in cc

@@ -1,7 +1,7 @@
 -- The text of tensors.
 --   tensor_text_at         the text is that of the tensors
 --   tensor_reply_of        the text is the reply for the group of generators
-use Rattle.std.proofs.Common.{◌↔◌, ◌≡◌, ap, sym, subst, refl, ℕ, ◌<◌, ◌≤◌, List, arith}
+use Rattle.std.proofs.Common.{◌↔◌, ◌≡◌, ap, subst, refl, ℕ, ◌≤◌, List}
 use Rattle.irr_space.specs.Operation.{Operation}
 use Rattle.irr_space.specs.Reciprocal.{IsOrder, Sign}
 use Rattle.irr_space.specs.Reciprocal.Sign.{minus}

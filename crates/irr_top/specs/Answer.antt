@@ -10,7 +10,7 @@ use Rattle.std.specs.Prelude.{ℕ, ◌<◌, ◌≤◌, List}
 use Rattle.irr_cyc.specs.declared.orders.TheConstants.{ORDER_LIMIT}
 use Rattle.irr_space.specs.Operation.{Operation}
 use Rattle.irr_top.specs.Question.{Question, IsNeededOrder}
-use Rattle.irr_top.specs.Question.Question.{star, small, full, product, compat, real, square, tensor, site, check}
+use Rattle.irr_top.specs.Question.Question.{star, small, full, product, compat, real, square, tensor, site, check, summary}
 use Rattle.irr_top.specs.StarCommand.{IsStarReply}
 use Rattle.irr_top.specs.SmallCommand.{IsSmallReply}
 use Rattle.irr_top.specs.FullCommand.{IsFullReply}
@@ -21,6 +21,7 @@ use Rattle.irr_top.specs.SquareCommand.{IsSquareReply}
 use Rattle.irr_top.specs.TensorCommand.{IsTensorReply}
 use Rattle.irr_top.specs.SiteCommand.{IsSiteReply}
 use Rattle.irr_top.specs.CheckCommand.{IsCheckReply}
+use Rattle.irr_top.specs.GenCommand.{IsGenReply}
 use Rattle.irr_top.specs.RefusalText.{refusal_text}
 use Rattle.irr_top.specs.declared.reply.Reply.{Reply}
 use Rattle.irr_top.specs.declared.reply.NoReply.{NoReply}
@@ -43,6 +44,7 @@ IsReply (square k) G s text = IsSquareReply G k s text
 IsReply (tensor f) G s text = IsTensorReply G f s text
 IsReply (site x k) G s text = IsSiteReply G x k s text
 IsReply (check r) G s text = IsCheckReply G r s text
+IsReply (summary number lines k) G s text = IsGenReply G number lines k s text
 
 pub record IsTooLargeAt (q : Question) (G : Operation → Type 0) (n : ℕ) : Type 0 where
   pub place : ℕ

@@ -13,6 +13,7 @@ pub mod SquareCommand
 pub mod TensorCommand
 pub mod SiteCommand
 pub mod CheckCommand
+pub mod GenCommand
 pub mod Answer
 pub mod Asked
 pub mod Outcome
@@ -21,5 +22,6 @@ pub mod Task
 pub mod Members
 pub mod ListText
 pub mod StarText
+pub mod SummaryText
 pub mod FullFamilies
 pub mod RealFamilies

@@ -2,9 +2,10 @@
 --   Question                 the star of a wave vector, the small or the full representations at one, the direct
 --                            products of the full ones at two, the compatibility relations of a first point and others,
 --                            the types of the full ones, their squares, the tensors of a form, the sites of a point and what
---                            they bring to a wave vector, or the verdict on a report
---   question_of r report     what a request asks, on an input with this report or none; nothing where the input lacks
---                            the section that the command needs
+--                            they bring to a wave vector, the verdict on a report, or the summary of the small
+--                            representations at a wave vector, with a number and a number of lines
+--   question_of r report n   what a request asks, on an input of n lines with this report or none; nothing where the
+--                            input lacks the section that the command needs
 --   IsNeededOrder q G i n    the i-th order of numbers that the answer needs, in the group G, is n: i counts from 0
 use Rattle.std.specs.Prelude.{ℕ, ◌≡◌, ◌≤◌, ◌⊎◌, Option, None, Some, List, length, map}
 use Rattle.irr_space.specs.Operation.{Operation, Vector, WaveVector}
@@ -13,12 +14,13 @@ use Rattle.irr_text.specs.ReportText.{ReportContent}
 use Rattle.irr_rat.specs.VectorMeaning.{vector}
 use Rattle.irr_kvec.specs.WaveMeaning.{wave_vector}
 use Rattle.irr_input.specs.declared.form.Form.{Form}
+use Rattle.irr_gen.specs.MadeInput.{made_wave}
 use Rattle.irr_line.specs.LineGroup.{IsLineOrder}
 use Rattle.irr_product.specs.Products.{IsPairOrder}
 use Rattle.irr_power.specs.Tensors.{origin}
 use Rattle.irr_top.specs.CompatCommand.{other_points, point_of}
 use Rattle.irr_top.specs.declared.request.Request.{Request}
-use Rattle.irr_top.specs.declared.request.Request.TheVariants.{Star, Small, Full, Product, Compat, Real, Square, Tensor, Site, Check}
+use Rattle.irr_top.specs.declared.request.Request.TheVariants.{Star, Small, Full, Product, Compat, Real, Square, Tensor, Site, Check, Gen}
 
 pub data Question : Type 0 where
   star : WaveVector → Question
@@ -31,19 +33,21 @@ pub data Question : Type 0 where
   tensor : Form → Question
   site : Vector → WaveVector → Question
   check : ReportContent → Question
+  summary : ℕ → ℕ → WaveVector → Question
 
-abbrev pub question_of : Request → Option ReportContent → Option Question
-question_of (Star k) report = Some (star (wave_vector k))
-question_of (Small k) report = Some (small (wave_vector k))
-question_of (Full k) report = Some (full (wave_vector k))
-question_of (Product k l) report = Some (product (wave_vector k) (wave_vector l))
-question_of (Compat k l m) report = Some (compat (wave_vector k) (map wave_vector (other_points l m)))
-question_of (Real k) report = Some (real (wave_vector k))
-question_of (Square k) report = Some (square (wave_vector k))
-question_of (Tensor f) report = Some (tensor f)
-question_of (Site x k) report = Some (site (vector x) (wave_vector k))
-question_of Check None = None
-question_of Check (Some r) = Some (check r)
+abbrev pub question_of : Request → Option ReportContent → ℕ → Option Question
+question_of (Star k) report n = Some (star (wave_vector k))
+question_of (Small k) report n = Some (small (wave_vector k))
+question_of (Full k) report n = Some (full (wave_vector k))
+question_of (Product k l) report n = Some (product (wave_vector k) (wave_vector l))
+question_of (Compat k l m) report n = Some (compat (wave_vector k) (map wave_vector (other_points l m)))
+question_of (Real k) report n = Some (real (wave_vector k))
+question_of (Square k) report n = Some (square (wave_vector k))
+question_of (Tensor f) report n = Some (tensor f)
+question_of (Site x k) report n = Some (site (vector x) (wave_vector k))
+question_of Check None n = None
+question_of Check (Some r) n = Some (check r)
+question_of (Gen number) report n = Some (summary number n (made_wave number))
 
 abbrev pub IsNeededOrder : Question → (Operation → Type 0) → ℕ → ℕ → Type 0
 IsNeededOrder (star k) G i n = (i ≡ 0) × IsOrder G k n
@@ -56,3 +60,4 @@ IsNeededOrder (square k) G i n = (i ≡ 0) × IsOrder G k n
 IsNeededOrder (tensor f) G i n = (i ≡ 0) × IsOrder G origin n
 IsNeededOrder (site x k) G i n = (i ≡ 0) × IsOrder G k n
 IsNeededOrder (check r) G i n = (i ≡ 0) × IsOrder G r.wave n
+IsNeededOrder (summary number lines k) G i n = (i ≡ 0) × IsOrder G k n

@@ -10,9 +10,9 @@ use Rattle.irr_report.specs.Content.{content_of}
 use Rattle.irr_report.specs.Limits.{IsWithinLimits as IsLimitedReport}
 use Rattle.irr_top.specs.CompatCommand.{other_points}
 use Rattle.irr_top.specs.Question.{Question}
-use Rattle.irr_top.specs.Question.Question.{star, small, full, product, compat, real, square, tensor, site, check}
+use Rattle.irr_top.specs.Question.Question.{star, small, full, product, compat, real, square, tensor, site, check, summary}
 use Rattle.irr_top.specs.declared.task.Task.{Task}
-use Rattle.irr_top.specs.declared.task.Task.TheVariants.{Star, Small, Full, Product, Compat, Real, Square, Tensor, Site, Check}
+use Rattle.irr_top.specs.declared.task.Task.TheVariants.{Star, Small, Full, Product, Compat, Real, Square, Tensor, Site, Check, Summary}
 
 abbrev pub asked_by : Task → Question
 asked_by (Star k) = star (wave_vector k)
@@ -25,6 +25,7 @@ asked_by (Square k) = square (wave_vector k)
 asked_by (Tensor f) = tensor f
 asked_by (Site x k) = site (vector x) (wave_vector k)
 asked_by (Check r) = check (content_of r)
+asked_by (Summary number lines k) = summary number lines (wave_vector k)
 
 abbrev pub IsLimited : Task → Type 0
 IsLimited (Star k) = IsWithinLimits k
@@ -37,3 +38,4 @@ IsLimited (Square k) = IsWithinLimits k
 IsLimited (Tensor f) = Unit {0}
 IsLimited (Site x k) = IsSmallPoint x × IsWithinLimits k
 IsLimited (Check r) = IsLimitedReport r
+IsLimited (Summary number lines k) = IsWithinLimits k

@@ -1,28 +1,31 @@
 // From a request and the bytes of an input to what is written.
-ghost use Rattle.std.specs.Prelude.{◌≡◌, ◌+◌, ◌≤◌, List, IfOk, IfErr, IfSome, length};
+ghost use Rattle.std.specs.Prelude.{ℕ, ◌≡◌, ◌+◌, ◌≤◌, None, Some, List, IfOk, IfErr, IfSome, length};
 ghost use Rattle.std.specs.List.{All};
 ghost use Rattle.irr_io.specs.Count.{CountsAtMost};
+ghost use Rattle.irr_io.specs.Views.{IsAtEnd};
 ghost use Rattle.irr_seitz.specs.OperationMeaning.{operation};
 ghost use Rattle.irr_seitz.specs.declared.op.Op.{Op};
 ghost use Rattle.irr_triplet.specs.Readable.{IsReadable};
 ghost use Rattle.irr_report.specs.Limits.{IsWithinLimits as IsLimitedReport};
 ghost use Rattle.irr_input.specs.Command.{AreLimited};
 ghost use Rattle.irr_input.specs.InputLines.{content};
-ghost use Rattle.irr_top.specs.Request.{command_of};
+ghost use Rattle.irr_top.specs.Request.{command_of, made_number as made_of};
 ghost use Rattle.irr_top.specs.GroupOf.{IsGroupOf, group_of};
 ghost use Rattle.irr_top.specs.Answer.{AsksOfGroup, IsReplied, IsNoReply};
-ghost use Rattle.irr_top.specs.Asked.{AsksOfBytes, AsksOfLines, AsksOfInput, AsksOfGenerators, input_limit, operations_of, passed_limit};
+ghost use Rattle.irr_top.specs.Asked.{AsksOfRequest, AsksOfBytes, AsksOfLines, AsksOfInput, AsksOfGenerators, input_limit, operations_of, passed_limit};
 ghost use Rattle.irr_top.specs.Outcome.{OutcomeOf, Serves};
 ghost use Rattle.irr_top.specs.Task.{asked_by, IsLimited};
+ghost use Rattle.irr_top.specs.declared.status.Status.TheVariants.{Done, ReadFault};
 
 use crate::check::check_reply;
 use crate::compat::compat_reply;
 use crate::full::full_reply;
+use crate::made::made_reply;
 use crate::product::product_reply;
 use crate::real::real_reply;
 use crate::refusal::{finish, refuse};
 use crate::reply::{NoReply, Reply};
-use crate::request::Request;
+use crate::request::{Request, made_number};
 use crate::site::site_reply;
 use crate::small::small_reply;
 use crate::square::square_reply;
@@ -31,6 +34,7 @@ use crate::status::{Kind, Status};
 use crate::task::{Number, Task, task_of};
 use crate::tensor::tensor_reply;
 use irr_close::{CloseError, Group, close};
+use irr_gen::make;
 use irr_input::{GenLine, Input, InputError, Reason, read_input};
 use irr_io::{InFault, Sink, Source, read_all};
 use irr_memory::Memory;
@@ -40,8 +44,53 @@ use std::alloc::Global;
 // The most bytes of input.
 const INPUT_LIMIT: usize = 4_194_304;
 
-/// Serves a request: reads the input to its end, and writes what is asked for.
+/// Serves a request: reads its input to its end, or makes it, and writes what is asked for.
 pub(crate) fn answer<I: Source, O: Sink>(
+    alloc: Global,
+    request: &Request,
+    source: &mut I,
+    sink: &mut O,
+) -> Status
+    requires limits { AreLimited (command_of request.now) }
+    ensures outcome { OutcomeOf (AsksOfRequest request.now)
+        (I.view source.old) (I.view source.new) (O.view sink.old) (O.view sink.new) result }
+    ensures fault { result ≡ ReadFault → made_of request.now ≡ None }
+    ensures end { made_of request.now ≡ None → result ≡ Done → IsAtEnd (I.view source.new) }
+    ensures unread { ¬ (made_of request.now ≡ None) → I.view source.new ≡ I.view source.old }
+    ensures reads { CountsAtMost (input_limit + 2) (I.view source.old).reads (I.view source.new).reads }
+{
+    match made_number(request) {
+        Some(number) => answer_made(alloc, request, number, sink),
+        None => answer_read(alloc, request, source, sink),
+    }
+}
+
+// Serves a request on the made input of its number.
+fn answer_made<O: Sink>(alloc: Global, request: &Request, number: u32, sink: &mut O) -> Status
+    requires limits { AreLimited (command_of request.now) }
+    requires made { made_of request.now ≡ Some number }
+    ensures { (bytes : List ℕ)
+        → Serves (AsksOfRequest request.now bytes) (O.view sink.old) (O.view sink.new) result }
+{
+    match make(alloc, number) {
+        Ok(made) => answer_bytes(alloc, request, &made.text, sink),
+        Err(_) => Status::Memory,
+    }
+}
+
+// Serves a request on an input of these bytes.
+fn answer_bytes<O: Sink>(alloc: Global, request: &Request, bytes: &[u8], sink: &mut O) -> Status
+    requires limits { AreLimited (command_of request.now) }
+    ensures { Serves (AsksOfBytes request.now bytes.now) (O.view sink.old) (O.view sink.new) result }
+{
+    if bytes.len() > INPUT_LIMIT {
+        return refuse(alloc, Status::TooLarge(Kind::Bytes), sink);
+    }
+    answer_lines(alloc, request, bytes, sink)
+}
+
+// Serves a request: reads the input to its end, and writes what is asked for.
+fn answer_read<I: Source, O: Sink>(
     alloc: Global,
     request: &Request,
     source: &mut I,
@@ -50,6 +99,7 @@ pub(crate) fn answer<I: Source, O: Sink>(
     requires limits { AreLimited (command_of request.now) }
     ensures outcome { OutcomeOf (AsksOfBytes request.now)
         (I.view source.old) (I.view source.new) (O.view sink.old) (O.view sink.new) result }
+    ensures end { result ≡ Done → IsAtEnd (I.view source.new) }
     ensures reads { CountsAtMost (input_limit + 2) (I.view source.old).reads (I.view source.new).reads }
 {
     match read_all(alloc, source, INPUT_LIMIT) {
@@ -92,7 +142,7 @@ fn answer_input<O: Sink>(
     ensures { Serves (AsksOfInput request.now (operations_of input.gens.items) (content input.report) input.lines)
         (O.view sink.old) (O.view sink.new) result }
 {
-    match task_of(request, input.report) {
+    match task_of(request, input.report, input.lines) {
         Some(task) => answer_task(alloc, &task, &input.gens, sink),
         None => {
             let status = Status::BadInput {
@@ -191,5 +241,6 @@ fn reply_of(alloc: Global, task: &Task, group: &Group) -> Result<Reply, NoReply>
         Task::Tensor(form) => tensor_reply(alloc, group, *form),
         Task::Site(point, wave) => site_reply(alloc, group, point, wave),
         Task::Check(report) => check_reply(alloc, group, report),
+        Task::Summary(number, lines, wave) => made_reply(alloc, group, *number, *lines, wave),
     }
 }

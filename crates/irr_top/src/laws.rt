@@ -13,7 +13,7 @@ ghost use Rattle.irr_check.specs.Trials.Reading.{meaning};
 ghost use Rattle.irr_check.specs.Verdict.{IsCompleteReport, IsVerdict};
 ghost use Rattle.irr_check.specs.declared.verdict.Verdict.TheVariants.{Yes};
 ghost use Rattle.irr_top.specs.GroupOf.{group_of};
-ghost use Rattle.irr_top.specs.Request.{IsCommand, IsFaultyWord};
+ghost use Rattle.irr_top.specs.Request.{IsFaultyWord, ReadsInput};
 ghost use Rattle.irr_top.specs.Asked.{Asks};
 ghost use Rattle.irr_top.specs.Outcome.{Outcome, IsFailure};
 ghost use Rattle.irr_top.specs.Answered.{IsAnswered, IsCutOff};
@@ -26,23 +26,26 @@ pub fn one_status_is_asked_for()
         → Asks words bytes s text → Asks words bytes t other → s ≡ t }
 {}
 
-/// What an outcome says, status by status: a text that is asked for was written whole; a read failed, of a
-/// command, and nothing was written; a write failed, and a front of a text that is asked for was written; memory
-/// was wanting, and nothing was written; at Done the input was read to its end. Faulty words are refused whatever
-/// the input is, unless memory was wanting or a write failed.
+/// What an outcome says, status by status: a text that is asked for was written whole; a read failed, for a
+/// command that reads an input, and nothing was written; a write failed, and a front of a text that is asked for was
+/// written; memory was wanting, and nothing was written; at Done such a command has read its input to the end. Words
+/// of no such command leave the source as it was. Faulty words are refused whatever the input is, unless memory was
+/// wanting or a write failed.
 pub fn an_outcome_status_by_status()
     ensures answered { (words : List (List ℕ)) (source read : SourceView) (sink written : SinkView) (t : Status)
         → Outcome words source read sink written t → ¬ (IsFailure t) → IsAnswered words source sink written t }
     ensures read_fault { (words : List (List ℕ)) (source read : SourceView) (sink written : SinkView)
         → Outcome words source read sink written ReadFault
-        → IsCommand words × ReadFailed source read × (written.held ≡ sink.held) }
+        → ReadsInput words × ReadFailed source read × (written.held ≡ sink.held) }
     ensures write_fault { (words : List (List ℕ)) (source read : SourceView) (sink written : SinkView)
         → Outcome words source read sink written WriteFault
         → WriteFailed sink written × IsCutOff words source sink written }
     ensures memory { (words : List (List ℕ)) (source read : SourceView) (sink written : SinkView)
         → Outcome words source read sink written Memory → written.held ≡ sink.held }
     ensures done { (words : List (List ℕ)) (source read : SourceView) (sink written : SinkView)
-        → Outcome words source read sink written Done → IsAtEnd read }
+        → Outcome words source read sink written Done → ReadsInput words → IsAtEnd read }
+    ensures unread { (words : List (List ℕ)) (source read : SourceView) (sink written : SinkView) (t : Status)
+        → Outcome words source read sink written t → ¬ (ReadsInput words) → read ≡ source }
     ensures usage { (words : List (List ℕ)) (source read : SourceView) (sink written : SinkView) (n : ℕ) (t : Status)
         → IsFaultyWord words n → Outcome words source read sink written t
         → (t ≡ Usage n) ⊎ ((t ≡ Memory) ⊎ (t ≡ WriteFault)) }

@@ -6,6 +6,7 @@ mod check;
 mod compat;
 mod full;
 mod laws;
+mod made;
 mod product;
 mod real;
 mod refusal;
@@ -28,6 +29,7 @@ pub use laws::{
     an_outcome_status_by_status, one_star_of_a_wave_vector, one_status_is_asked_for,
     yes_is_for_complete_reports,
 };
+pub use made::text_gen;
 pub use refusal::text_refusal;
 pub use star::text_star;
 pub use status::{Kind, Status};

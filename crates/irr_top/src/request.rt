@@ -1,7 +1,7 @@
 // The commands that are served.
 ghost use Rattle.std.specs.Prelude.{◌≡◌, ◌↔◌, IfOk, IfErr, IfSome, IsNone, IsTrue};
 ghost use Rattle.irr_input.specs.Command.{texts, AreLimited};
-ghost use Rattle.irr_top.specs.Request.{command_of, BeginsServed, IsFaultyWord, IsServed, IsRequested};
+ghost use Rattle.irr_top.specs.Request.{command_of, made_number as made_of, BeginsServed, IsFaultyWord, IsServed, IsRequested};
 
 use irr_input::{Command, Form, Usage, read_words};
 use irr_kvec::Wave;
@@ -30,6 +30,8 @@ pub(crate) enum Request {
     Site(Vec3, Wave),
     /// The verdict on the input's report.
     Check,
+    /// The summary of the made input of a number.
+    Gen(u32),
 }
 
 /// The request that the words are. An error is the number of the first word, counted from 1, that no command
@@ -45,6 +47,25 @@ pub(crate) fn served(words: &[Vec<u8>]) -> Result<Request, u32>
             None => Err(1),
         },
         Err(Usage(n)) => Err(if begins_served(words) { n } else { 1 }),
+    }
+}
+
+/// The number of the made input that a request is for; none where it reads an input.
+pub(crate) fn made_number(request: &Request) -> Option<u32>
+    ensures { result ≡ made_of request.now }
+{
+    match request {
+        Request::Gen(number) => Some(*number),
+        Request::Star(_)
+        | Request::Small(_)
+        | Request::Full(_)
+        | Request::Product(_, _)
+        | Request::Compat(_, _, _)
+        | Request::Real(_)
+        | Request::Square(_)
+        | Request::Tensor(_)
+        | Request::Site(_, _)
+        | Request::Check => None,
     }
 }
 
@@ -64,7 +85,8 @@ fn request_of(command: Command) -> Option<Request>
         Command::Tensor(form) => Some(Request::Tensor(form)),
         Command::Site(point, wave) => Some(Request::Site(point, wave)),
         Command::Check => Some(Request::Check),
-        Command::Subduce(_) | Command::Gen(_) => None,
+        Command::Gen(number) => Some(Request::Gen(number)),
+        Command::Subduce(_) => None,
     }
 }
 
@@ -85,6 +107,7 @@ fn begins_served(words: &[Vec<u8>]) -> bool
                 | b"tensor"
                 | b"site"
                 | b"check"
+                | b"gen"
         ),
         None => false,
     }

@@ -8,6 +8,7 @@ ghost use Rattle.irr_top.specs.Question.{question_of};
 ghost use Rattle.irr_top.specs.Task.{asked_by, IsLimited};
 
 use crate::request::Request;
+use irr_gen::made_wave;
 use irr_input::Form;
 use irr_kvec::Wave;
 use irr_rat::Vec3;
@@ -40,14 +41,17 @@ pub(crate) enum Task {
     Site(Vec3, Wave),
     /// The verdict on a report.
     Check(Report<Number>),
+    /// The summary of the small representations at a wave vector, with the number from which the input was made and
+    /// the number of its lines.
+    Summary(u32, u64, Wave),
 }
 
-/// The request with the section that it needs, where the input has it.
-pub(crate) fn task_of(request: &Request, report: Option<Report<Number>>) -> Option<Task>
+/// The request with the section that it needs, where the input has it, and with the number of its lines.
+pub(crate) fn task_of(request: &Request, report: Option<Report<Number>>, lines: u64) -> Option<Task>
     requires limits { AreLimited (command_of request.now) }
     requires reports { IfSome report IsLimitedReport }
-    ensures some { IfSome result (λ task. question_of request.now (content report) ≡ Some (asked_by task)) }
-    ensures none { IsNone result → question_of request.now (content report) ≡ None }
+    ensures some { IfSome result (λ task. question_of request.now (content report) lines ≡ Some (asked_by task)) }
+    ensures none { IsNone result → question_of request.now (content report) lines ≡ None }
     ensures limits { IfSome result IsLimited }
 {
     match request {
@@ -64,5 +68,6 @@ pub(crate) fn task_of(request: &Request, report: Option<Report<Number>>) -> Opti
             Some(report) => Some(Task::Check(report)),
             None => None,
         },
+        Request::Gen(number) => Some(Task::Summary(*number, lines, made_wave(*number))),
     }
 }

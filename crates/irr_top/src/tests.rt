@@ -1,6 +1,7 @@
 mod check;
 mod compat;
 mod full;
+mod made;
 mod numbers;
 mod product;
 mod quoted;

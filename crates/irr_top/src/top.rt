@@ -13,8 +13,8 @@ use crate::status::Status;
 use irr_io::{Sink, Source};
 use std::alloc::Global;
 
-/// Serves one command: reads its words, reads the input from `source` to its end, and writes the text
-/// that they ask for to `sink`.
+/// Serves one command: reads its words, reads the input from `source` to its end, or makes it where they name the
+/// number of a made input, and writes the text that they ask for to `sink`.
 pub fn run<I: Source, O: Sink>(
     alloc: Global,
     words: &[Vec<u8>],

@@ -34,6 +34,10 @@ fn words_are_refused(rt: HostRuntime) -> Result<(), Fail> {
         (&["site", "0,0,0", "0,0,0", "0"], "usage 4\n"),
         (&["subduce", "0,0,0"], "usage 1\n"),
         (&["check", "0"], "usage 2\n"),
+        (&["gen"], "usage 2\n"),
+        (&["gen", "4294967296"], "usage 2\n"),
+        (&["gen", "-1"], "usage 2\n"),
+        (&["gen", "7", "0"], "usage 3\n"),
     ] {
         let (status, text) = ran(
             rt.alloc(),

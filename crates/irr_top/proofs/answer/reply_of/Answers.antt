@@ -45,3 +45,7 @@ returns-in-Site-clause-none c = λ gens is. subst (λ (t : Task). IfErr c.site_r
 pub returns-in-Check-clause-none : goal.returns-in-Check-clause-none
 returns-in-Check-clause-none c = λ gens is. subst (λ (t : Task). IfErr c.check_reply.result (IsNoReply (asked_by t) (group_of gens)))
     (sym c.in-Check.is) (c.check_reply.ensures.none gens is)
+
+pub returns-in-Summary-clause-none : goal.returns-in-Summary-clause-none
+returns-in-Summary-clause-none c = λ gens is. subst (λ (t : Task). IfErr c.made_reply.result (IsNoReply (asked_by t) (group_of gens)))
+    (sym c.in-Summary.is) (c.made_reply.ensures.none gens is)

@@ -1,5 +1,5 @@
 -- The reply for the group of generators.
-use Rattle.std.proofs.Common.{◌≤◌, arith}
+use Rattle.std.proofs.Common.{arith}
 use Rattle.irr_close.specs.StandsFor.{stands_for}
 use Rattle.irr_power.proofs.FormSpaces.{origin_order}
 use Rattle.irr_top.proofs.TensorTexts.{tensor_reply_of}

@@ -1,5 +1,5 @@
 -- The text of tensors.
-use Rattle.std.proofs.Common.{◌≡◌, subst, List}
+use Rattle.std.proofs.Common.{◌≡◌, subst}
 use Rattle.irr_seitz.specs.PhaseMeaning.{sign_of}
 use Rattle.irr_close.specs.StandsFor.{stands_for}
 use Rattle.irr_power.specs.Tensors.{origin, tensor_entry}

@@ -1,0 +1,5 @@
+pub mod SignedRows
+pub mod Quarters
+pub mod MadeLines
+pub mod SmallWaves
+pub mod OneInput

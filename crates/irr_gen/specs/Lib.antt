@@ -1,0 +1,4 @@
+pub mod Symmetry
+pub mod Groups
+pub mod Signed
+pub mod MadeInput
