@@ -1,0 +1,9 @@
+pub mod Fractions
+pub mod LineRecogniser
+pub mod Runs
+pub mod LineParts
+pub mod LeastDenominators
+pub mod RowValues
+pub mod LineAnswers
+pub mod SpelledOnce
+pub mod OneSetting

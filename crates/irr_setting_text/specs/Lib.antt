@@ -1,0 +1,4 @@
+pub mod WrittenLine
+pub mod SettingFault
+pub mod LineFront
+pub mod LineReading
