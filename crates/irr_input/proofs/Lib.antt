@@ -4,6 +4,10 @@ pub mod FormSteps
 pub mod WordForms
 pub mod SkippedLines
 pub mod LineCounts
-pub mod LineLists
-pub mod ReportWords
+pub mod SectionWords
+pub mod SettingLaws
+pub mod FirstFaults
 pub mod OneInput
+pub mod LineReadings
+pub mod SubgroupReadings
+pub mod SubgroupLines

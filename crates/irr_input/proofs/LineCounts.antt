@@ -1,6 +1,8 @@
 -- How many lines a text has.
 --   CountedSoFar text rest n     the lines of the text are n, and then those of the rest
 --   none_counted, one_counted, all_counted     no line is counted, one more, and all
+--   no_line                      no text is empty and has a first line
+--   reached_lines                lines that are read, and those of the rest
 --   few_lines                    there are no more lines than bytes
 --   fits_behind                  the line of a fault in a report, counted with the lines before it
 use Rattle.std.proofs.Common.{◌≡◌, ◌≢◌, refl, sym, ◌∙◌, ap, subst, ℕ, zero, suc, ◌+◌, ◌<◌, ◌≤◌, ◌^◌, List, [], ◌∷◌, length, take, arith}
@@ -13,6 +15,8 @@ use Rattle.irr_report.specs.ReportLines.{report_lines}
 use Rattle.irr_report.specs.ReportFault.{IsLineFault, IsRangeFault, IsFault}
 use Rattle.irr_report.specs.declared.report.ReportError.{ReportError}
 use Rattle.irr_report.specs.declared.report.ReportError.TheVariants.{Line, Range, Memory}
+use Rattle.irr_input.specs.Stages.{Said, Reaches}
+use Rattle.irr_input.specs.Stages.Reaches.{start, more}
 use Rattle.irr_input.specs.InputLines.{HasLines}
 use Rattle.irr_input.specs.SectionReading.{FitsBehind}
 
@@ -35,13 +39,21 @@ all_counted text rest n c e =
     let no_line : AreLines rest [] = subst (λ t. AreLines t []) (sym (nil_from_length rest e)) no_lines in
     subst (HasLines text) (let same : n + 0 ≡ n = omega arith in same) (c.continued 0 (record { lines = []; are_lines = no_line; count = refl }))
 
+pub reached_lines : {bytes rest : List ℕ} {s : Said} {n : ℕ} → Reaches bytes s n rest → (m : ℕ) → HasLines rest m → HasLines bytes (n + m)
+reached_lines {bytes = bytes} start m h = subst (HasLines bytes) (let same : m ≡ 0 + m = omega arith in same) h
+reached_lines {bytes = bytes} (more {n = n} {rest = rest} {line = line} {behind = behind} r f a) m h =
+    subst (HasLines bytes) (let same : n + suc m ≡ suc n + m = omega arith in same) (reached_lines r (suc m) (first_counted rest line behind m f h))
+
 some_bytes : (text : List ℕ) → text ≢ [] → 0 < length text
 some_bytes [] some = absurd (some refl)
 some_bytes (x ∷ text) some = omega arith
 
-shorter : (text line rest : List ℕ) → IsFirstLine text line rest → length rest < length text
+pub shorter : (text line rest : List ℕ) → IsFirstLine text line rest → length rest < length text
 shorter text line rest (ended before e all content) = rest_shorter text before rest e
 shorter text line rest (unended some all e r) = omega (arith, ap length r, some_bytes text some)
+
+pub no_line : (text line rest : List ℕ) → length text ≡ 0 → IsFirstLine text line rest → ⊥
+no_line text line rest e f = omega (arith, e, shorter text line rest f)
 
 pub few_lines : {text : List ℕ} {lines : List (List ℕ)} → AreLines text lines → length lines ≤ length text
 few_lines no_lines = omega arith

@@ -8,7 +8,7 @@
 --   small_of_read, read_of_small     what is read is small exactly where what is written is
 --   zero_point, zero_point-text      0,0,0 writes one
 use Rattle.std.proofs.Common.{◌≡◌, refl, sym, ◌∙◌, ap, subst, ℕ, zero, suc, ℤ, ◌<◌, ◌≤◌, pos, Bool, true, false, List, [], ◌∷◌, ◌++◌, Option, None, Some, IfSome, append-nil, inl, inr, lit≤, ◌*◌, arith}
-use Rattle.std.specs.Prelude.{codes, ◌*ℤ◌, neg_ℤ, unsigned_abs}
+use Rattle.std.specs.Prelude.{codes, neg_ℤ, unsigned_abs}
 use Rattle.std.proofs.lemmas.Int.{unsigned_abs-mul}
 use native.Mathlib.Nat as Nat
 use Rattle.irr_algebra.specs.Fin.{Fin}
@@ -18,7 +18,7 @@ use Rattle.irr_rational.specs.Rational.{ratio}
 use Rattle.irr_rational.specs.Ratio.{entry}
 use Rattle.irr_rational.proofs.LowestTerms.{are_lowest_unique}
 use Rattle.irr_rational.proofs.Ratios.{cross_of_ratio}
-use Rattle.irr_space.specs.Operation.{Vector, WaveVector, wave_component}
+use Rattle.irr_space.specs.Operation.{Vector, WaveVector}
 use Rattle.irr_rat.specs.declared.vec3.Vec3.{Vec3}
 use Rattle.irr_rat.specs.VectorMeaning.{vector, vector_of}
 use Rattle.irr_rat.proofs.Vectors.{each_of_three}
@@ -28,7 +28,7 @@ use Rattle.irr_token.specs.Token.Token.{mark}
 use Rattle.irr_token.specs.Spelling.{AreSpelled}
 use Rattle.irr_token.specs.Quotient.{WrittenQuotient, denominator_value, is_negative, quotient_tokens, with_sign}
 use Rattle.irr_token.specs.Reading.{IsBehindQuotient, IsReadAs, written_quotient}
-use Rattle.irr_token.specs.Fault.{AreNotZero, AreWithin, IsFirstBeyond, Limited, denominators, limited, present, present_limited}
+use Rattle.irr_token.specs.Fault.{AreNotZero, AreWithin, Limited, denominators, limited, present, present_limited}
 use Rattle.irr_token.proofs.OneFault.{beyond-none, zero-none}
 use Rattle.irr_kvec.specs.declared.wave.Wave.{Wave}
 use Rattle.irr_kvec.specs.declared.read.WaveError.{WaveError}
@@ -38,7 +38,7 @@ use Rattle.irr_kvec.specs.WrittenWave.{WrittenWave, IsSpelling, IsWave}
 use Rattle.irr_kvec.specs.WaveFault.{IsFault, IsTextOf, IsWritten, wave_denominators, wave_numbers}
 use Rattle.irr_kvec.proofs.OneWave.{wave_unique}
 use Rattle.irr_kvec.proofs.WaveAnswers.{Reads, Skips}
-use Rattle.irr_input.specs.PointText.{AreSmallNumbers, HasSmallDenominator, HasSmallDenominators, IsPointOf, IsSmallPoint, as_row}
+use Rattle.irr_input.specs.PointText.{AreSmallNumbers, HasSmallDenominator, HasSmallDenominators, IsPointOf, as_row}
 use Rattle.irr_input.proofs.WaveTexts.{component-is, text-of_read, zero-text, zero_wave}
 
 pub point_unique : (text : List ℕ) (x y : Vector) → IsPointOf text x → IsPointOf text y → x ≡ y

@@ -8,8 +8,8 @@ use Rattle.irr_token.specs.declared.kind.Kind.TheVariants.{Blank, Digit, Mark}
 use Rattle.irr_token.specs.Kinds.{kind_of, AreBlanks}
 use Rattle.irr_token.specs.Reading.{BeginsWith, BeginsWithBlank}
 use Rattle.irr_token.proofs.Blanks.{blanks_unique}
-use Rattle.irr_input.specs.InputLines.{IsSkipped}
-use Rattle.irr_input.specs.InputLines.IsSkipped.{blank, comment}
+use Rattle.irr_input.specs.SectionLines.{IsSkipped}
+use Rattle.irr_input.specs.SectionLines.IsSkipped.{blank, comment}
 
 pub record IsParted (line : List ℕ) : Type 0 where
   pub blanks : List ℕ

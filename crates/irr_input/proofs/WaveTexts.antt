@@ -3,31 +3,25 @@
 --   text-of_read           what is read with no fault is what the text writes
 --   no_fault-text          a text that has a fault writes none
 --   zero_wave, zero-text   0,0,0 writes one
-use Rattle.std.proofs.Common.{◌≡◌, refl, sym, ◌∙◌, subst, ℕ, ◌≤◌, pos, Bool, true, false, List, [], ◌∷◌, ◌++◌, Option, None, Some, append-nil, append_assoc, inl, inr, lit≤, ◌+◌, arith}
+use Rattle.std.proofs.Common.{◌≡◌, refl, sym, ◌∙◌, ℕ, ◌≤◌, pos, List, [], ◌∷◌, None, inl, inr, lit≤, ◌+◌, arith}
 use Rattle.std.specs.Prelude.{codes}
-use Rattle.std.specs.Str.Parse.{IsNumeral}
 use native.Mathlib.Nat as Nat
 use Rattle.irr_algebra.specs.Fin.{Fin, to_nat}
 use Rattle.irr_algebra.specs.Fin.Fin.{first, next}
-use Rattle.irr_algebra.proofs.Indices.{only_first}
-use Rattle.irr_algebra.proofs.Matrices.{matrix-ext}
 use Rattle.irr_rational.specs.Rational.{ratio}
 use Rattle.irr_rational.specs.Ratio.{entry, ratios}
 use Rattle.irr_space.specs.Operation.{WaveVector, wave_component}
-use Rattle.irr_token.specs.Token.{PlacedNumber, Token}
+use Rattle.irr_token.specs.Token.{Token}
 use Rattle.irr_token.specs.Token.Token.{number, mark}
-use Rattle.irr_token.specs.Quotient.{WrittenQuotient, sign_tokens, over_tokens, quotient_tokens}
-use Rattle.irr_token.specs.Reading.{IsBehindNumber, IsBehindQuotient}
+use Rattle.irr_token.specs.Quotient.{WrittenQuotient}
 use Rattle.irr_token.specs.Spelling.{AreSpelled}
 use Rattle.irr_kvec.specs.declared.wave.Wave.{Wave}
 use Rattle.irr_kvec.specs.declared.read.WaveError.{WaveError}
 use Rattle.irr_kvec.specs.declared.read.WaveError.TheVariants.{Shape, Zero, Range}
 use Rattle.irr_kvec.specs.WaveMeaning.{wave_of, wave_vector}
 use Rattle.irr_kvec.specs.WrittenWave.{WrittenWave, wave_tokens, IsSpelling, IsWave}
-use Rattle.irr_kvec.specs.WaveFault.{wave_denominators, wave_numbers, IsValue, IsWritten, IsFault, IsTextOf}
+use Rattle.irr_kvec.specs.WaveFault.{wave_denominators, wave_numbers, IsWritten, IsFault, IsTextOf}
 use Rattle.irr_token.proofs.OneFault.{beyond-none, zero-none}
-use Rattle.irr_token.proofs.SpelledOnce.{spelled_once}
-use Rattle.irr_kvec.proofs.OneWave.{apart_wave}
 
 -- faults
 

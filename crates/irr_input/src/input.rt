@@ -1,24 +1,24 @@
 // The lines of an input.
-ghost use Rattle.std.specs.Prelude.{ℕ, ◌≡◌, ◌⊎◌, ◌↔◌, ◌<◌, ◌≤◌, List, Option, All, IsTrue, IfOk, IfErr, IfSome, OnOk, MatchResult};
+ghost use Rattle.std.specs.Prelude.{ℕ, ◌≡◌, ◌⊎◌, ◌<◌, ◌≤◌, List, Option, All, IfOk, IfErr, IfSome, MatchResult, length};
 ghost use Rattle.irr_seitz.specs.OperationMeaning.{operation};
 ghost use Rattle.irr_triplet.specs.Readable.{IsReadable};
-ghost use Rattle.irr_triplet.specs.TripletFault.{IsFault, IsTextOf};
 ghost use Rattle.irr_cyc.specs.declared.orders.TheConstants.{ORDER_LIMIT};
 ghost use Rattle.irr_text.specs.ReportText.{ReportContent};
+ghost use Rattle.irr_setting.specs.Setting.{IsSmallSetting};
 ghost use Rattle.irr_report.specs.Limits.{IsWithinLimits};
-ghost use Rattle.irr_input.specs.InputLines.{IsSkipped, HasFault, IsInput, HasLines, IsFaultyLine, IsLimitLine, IsInputFault, content, placed};
-ghost use Rattle.irr_input.specs.LineReading.{IsLineRead, IsLineFault};
+ghost use Rattle.irr_input.specs.Stages.{SubContent};
+ghost use Rattle.irr_input.specs.InputLines.{IsInput, HasLines, IsFaultyLine, IsLimitLine, IsInputFault, content, sub_content, placed};
 ghost use Rattle.irr_input.specs.declared.input.GenLine.{GenLine};
 ghost use Rattle.irr_input.specs.declared.input.Reason.{Reason};
 ghost use Rattle.irr_input.specs.declared.input.InputError.TheVariants.{Bad, Memory, ReportRange};
 
-use crate::section::{begins_report, count_lines, read_section};
+use crate::lines::{Left, read_generators};
+use crate::section::read_end;
+use crate::subgroup::read_subgroup;
 use irr_cyc::Scalar;
-use irr_lines::next_line;
 use irr_report::Report;
 use irr_seitz::Op;
-use irr_token::{Rest, begins_with, behind};
-use irr_triplet::{TripletError, read_triplet};
+use irr_setting::Setting;
 use std::alloc::{AllocFailed, Global};
 use thiserror::Error;
 
@@ -29,18 +29,28 @@ pub struct GenLine {
     pub op: Op,
 }
 
-/// The generators of an input in their order, the report behind them, if there is one, and how many lines there are
-/// in all.
+/// A subgroup: the number of the line of its basis, its setting, and its generators in that setting, in their order.
+#[derive(Drop)]
+pub struct SubSpec {
+    pub line: u64,
+    pub setting: Setting,
+    pub gens: Vec<GenLine>,
+}
+
+/// The generators of an input in their order, the subgroup and the report behind them, if there are these, and how many
+/// lines there are in all.
 #[derive(Drop)]
 pub struct Input<S: Scalar> {
     pub gens: Vec<GenLine>,
+    pub sub: Option<SubSpec>,
     pub report: Option<Report<S>>,
     pub lines: u64,
 }
 
-/// What is wrong with a line. As a triplet of an operation it leaves the grammar at a place, a denominator is 0, a number
-/// or the common denominator passes its limit, or the determinant is neither 1 nor -1; places count bytes of the line from
-/// 0. Or a report is missing where one is asked for, or the line is one of a report and outside its grammar.
+/// What is wrong with a line. It leaves the grammar at a place, a denominator is 0, a number or the common denominator
+/// passes its limit, or the determinant of a triplet is neither 1 nor -1; places count bytes of the line from 0. Or a line
+/// or a section is missing, or the line is one of a report and outside its grammar. The basis of a subgroup may be singular,
+/// and a generator of a subgroup not in the group.
 #[derive(Clone, Copy, Debug, PartialEq, Eq)]
 pub enum Reason {
     Shape(u64),
@@ -49,13 +59,15 @@ pub enum Reason {
     Determinant,
     Missing,
     Report,
+    Singular,
+    NotInGroup,
 }
 
 /// Why bytes are no input. Lines count from 1.
 #[derive(Clone, Copy, Debug, PartialEq, Eq, Error)]
 pub enum InputError {
-    /// The line of this number is the first that is neither skipped nor a triplet, or the first at fault in the report; a
-    /// missing line of the report counts as the one after the last.
+    /// The line of this number is the first at fault where it stands: no line of its sort may stand there, or it is not
+    /// as one of its sort. A missing line counts as the one after the last.
     #[error("line {line} is faulty")]
     Bad { line: u64, reason: Reason },
     /// The line of this number is the first of the report that passes a limit.
@@ -74,95 +86,58 @@ impl From<AllocFailed<GenLine>> for InputError {
     }
 }
 
-/// The generators of an input, and its report, if it has one.
+/// The generators of an input, its subgroup and its report, if it has these.
 ///
-/// A report is the lines from the first one whose first word is `report` on. Each line before it writes a generator as a
-/// triplet, but for lines that are empty or of blanks alone, and lines whose first byte behind blanks is `#`.
+/// A line whose first word is `subgroup`, `basis`, `origin` or `report` is read as one of a section, each other line as the
+/// triplet of a generator, but for lines that are empty or of blanks alone, and lines whose first byte behind blanks is `#`.
+/// Generators come first, and then perhaps `subgroup`, a basis and an origin, each on a line, and the generators of the
+/// subgroup in this setting. A report is the lines from the first one whose first word is `report` on.
 /// Lines end with a line feed, with or without a carriage return before it; the last line may lack its end.
+///
+/// A line of another sort than may stand at its place is faulty at its first byte. Where the input ends and a basis or an
+/// origin must stand, the line after the last is missing.
 pub fn read_input<S: Scalar>(alloc: Global, text: &[u8]) -> Result<Input<S>, InputError>
     requires { (n : ℕ) → 0 < n → n ≤ ORDER_LIMIT → S.admits n }
-    ensures input { IfOk result (λ i. IsInput text.now i.gens.items (content i.report)) }
+    ensures input { IfOk result (λ i. IsInput text.now i.gens.items (sub_content i.sub) (content i.report)) }
     ensures lines { IfOk result (λ i. HasLines text.now i.lines) }
     ensures readable { IfOk result (λ i. All (λ g. IsReadable (operation g.op)) i.gens.items) }
+    ensures few { IfOk result (λ i. length i.gens.items ≤ i.lines) }
+    ensures setting { IfOk result (λ i. IfSome i.sub (λ s. IsSmallSetting s.setting)) }
+    ensures subgroup { IfOk result (λ i. IfSome i.sub (λ s. All (λ g. IsReadable (operation g.op)) s.gens.items)) }
+    ensures few_subgroup { IfOk result (λ i. IfSome i.sub (λ s. length s.gens.items ≤ i.lines)) }
     ensures limits { IfOk result (λ i. IfSome i.report IsWithinLimits) }
-    ensures only { (gens : List GenLine) (report : Option ReportContent) → IsInput text.now gens report
-        → MatchResult result (λ i. (placed i.gens.items ≡ placed gens) × (content i.report ≡ report)) (λ e. e ≡ Memory) }
+    ensures only { (gens : List GenLine) (sub : Option SubContent) (report : Option ReportContent) → IsInput text.now gens sub report
+        → MatchResult result (λ i. (placed i.gens.items ≡ placed gens) × (sub_content i.sub ≡ sub) × (content i.report ≡ report)) (λ e. e ≡ Memory) }
     ensures fault { IfErr result (IsInputFault text.now) }
     ensures refused { (n : ℕ) (reason : Reason) → IsFaultyLine text.now n reason
         → MatchResult result (λ i. ⊥) (λ e. (e ≡ Memory) ⊎ (e ≡ Bad n reason)) }
     ensures limited_line { (n : ℕ) → IsLimitLine text.now n
         → MatchResult result (λ i. ⊥) (λ e. (e ≡ Memory) ⊎ (e ≡ ReportRange n)) }
 {
-    let mut gens = Vec::new(alloc);
-    let mut lines = 0u64;
-    let mut rest = text;
-    while !rest.is_empty() {
-        let (line, behind) = next_line(rest);
-        if begins_report(line) {
-            let report = read_section(alloc, rest, lines)?;
-            let all = lines + count_lines(rest);
-            return Ok(Input {
-                gens,
-                report: Some(report),
-                lines: all,
-            });
-        }
-        lines += 1;
-        read_line(&mut gens, line, lines)?;
-        rest = behind;
-    }
+    read_sections(alloc, text)
+}
+
+// The sections of an input, one after another.
+fn read_sections<S: Scalar>(alloc: Global, text: &[u8]) -> Result<Input<S>, InputError>
+    requires { (n : ℕ) → 0 < n → n ≤ ORDER_LIMIT → S.admits n }
+    ensures input { IfOk result (λ i. IsInput text.now i.gens.items (sub_content i.sub) (content i.report)) }
+    ensures lines { IfOk result (λ i. HasLines text.now i.lines) }
+    ensures readable { IfOk result (λ i. All (λ g. IsReadable (operation g.op)) i.gens.items) }
+    ensures few { IfOk result (λ i. length i.gens.items ≤ i.lines) }
+    ensures setting { IfOk result (λ i. IfSome i.sub (λ s. IsSmallSetting s.setting)) }
+    ensures subgroup { IfOk result (λ i. IfSome i.sub (λ s. All (λ g. IsReadable (operation g.op)) s.gens.items)) }
+    ensures few_subgroup { IfOk result (λ i. IfSome i.sub (λ s. length s.gens.items ≤ i.lines)) }
+    ensures limits { IfOk result (λ i. IfSome i.report IsWithinLimits) }
+    ensures fault { IfErr result (IsInputFault text.now) }
+{
+    let lines = 0;
+    let (gens, left) = read_generators(alloc, Left { text, lines })?;
+    let (sub, left) = read_subgroup(alloc, left)?;
+    let (report, lines) = read_end(alloc, left)?;
     Ok(Input {
         gens,
-        report: None,
+        sub,
+        report,
         lines,
     })
-}
-
-// Reads one line, of this number, and adds its generator, if it has one.
-fn read_line(gens: &mut Vec<GenLine>, line: &[u8], number: u64) -> Result<(), InputError>
-    ensures read { OnOk result (IsLineRead number line.now gens.old.items gens.new.items) }
-    ensures fault { IfErr result (IsLineFault number line.now) }
-{
-    if is_skipped(line) {
-        return Ok(());
-    }
-    let op = generator(line, number)?;
-    gens.push(GenLine { line: number, op })?;
-    Ok(())
-}
-
-// Whether a line has no byte but blanks, or `#` as the first other one.
-fn is_skipped(line: &[u8]) -> bool
-    ensures { IsTrue result ↔ IsSkipped line.now }
-{
-    let place = 0;
-    let rest = behind(Rest { place, text: line }, 0);
-    rest.text.is_empty() || begins_with(rest.text, b'#')
-}
-
-// The operation that the line of this number writes.
-fn generator(line: &[u8], number: u64) -> Result<Op, InputError>
-    ensures text { IfOk result (λ op. IsTextOf line.now (operation op)) }
-    ensures readable { IfOk result (λ op. IsReadable (operation op)) }
-    ensures fault { IfErr result (λ e. (reason : Reason) × (e ≡ Bad number reason) × HasFault line.now reason) }
-{
-    match read_triplet(line) {
-        Ok(op) => Ok(op),
-        Err(error) => Err(InputError::Bad {
-            line: number,
-            reason: reason_of(error),
-        }),
-    }
-}
-
-// The reason of a line that is no triplet.
-fn reason_of(error: TripletError) -> Reason
-    ensures { (line : List ℕ) → IsFault line error → HasFault line result }
-{
-    match error {
-        TripletError::Shape(place) => Reason::Shape(place),
-        TripletError::Zero(place) => Reason::Zero(place),
-        TripletError::Range(place) => Reason::Range(place),
-        TripletError::Determinant => Reason::Determinant,
-    }
 }

@@ -1,9 +1,10 @@
 use crate::{
-    Command, Form, Input, InputError, Reason, Usage, bytes_mean_one_input, read_input, read_words,
-    words_mean_one_command,
+    Command, Form, GenLine, Input, InputError, Reason, Usage, bytes_mean_one_input, read_input,
+    read_words, words_mean_one_command,
 };
 use irr_cyc::Dense;
 use irr_kvec::Wave;
+use irr_triplet::print_triplet;
 use std::alloc::Global;
 use std::test::Fail;
 
@@ -181,7 +182,7 @@ fn the_first_faulty_line_is_named(rt: HostRuntime) {
         ("-x,-y,-z\nx,x,z\n", 2, Reason::Determinant),
         ("-x,-y,-z\nx+1/0,y,z\n", 2, Reason::Zero(4)),
         ("-x,-y,-z\nx+100001,y,z\n", 2, Reason::Range(2)),
-        ("subgroup\n", 1, Reason::Shape(0)),
+        ("subgroups\n", 1, Reason::Shape(0)),
         ("reports 1\n", 1, Reason::Shape(0)),
         ("x,y,z\nx,y,z\r", 2, Reason::Shape(5)),
         ("x,y\nx,x,z\n", 1, Reason::Shape(3)),
@@ -196,6 +197,234 @@ fn the_first_faulty_line_is_named(rt: HostRuntime) {
         ),
         ("x,y,z\nreport 1\n", 3, Reason::Report),
     ] {
+        assert!(rt;
+            input_read(rt.alloc(), text) == Err(InputError::Bad { line, reason }),
+            "at {text}"
+        );
+    }
+}
+
+// The subgroup of an input: the line of its basis, the rows of the basis and their denominator, the origin and its
+// denominator, and the lines of its generators, 0 where there are no more.
+fn subgroup_read(
+    alloc: Global,
+    text: &str,
+) -> Result<Option<(u64, [[i64; 3]; 3], u32, [i64; 3], u32, [u64; 2])>, InputError> {
+    let input = read_input::<Dense>(alloc, text.as_bytes())?;
+    match &input.sub {
+        Some(sub) => {
+            let line = |i: usize| sub.gens.get(i).map_or(0, |g| g.line);
+            let setting = sub.setting;
+            let num = setting.num;
+            let shift = setting.shift;
+            let origin = shift.num;
+            let gens = [line(0), line(1)];
+            Ok(Some((sub.line, num, setting.den, origin, shift.den, gens)))
+        }
+        None => Ok(None),
+    }
+}
+
+#[test]
+fn a_subgroup_stands_behind_the_generators(rt: HostRuntime) {
+    let text =
+        "x,y,z\n # c\nsubgroup \n\n  basis 1/2 1/2 0 -1/2 1/2 0 0 0 1 \n#\n\torigin 1/4 0 -1/8\n\nx,y,-z\n-x,y,z\n";
+    assert!(rt; input_read(rt.alloc(), text) == Ok(([1, 0, 0], 0, 10)));
+    assert!(rt;
+        subgroup_read(rt.alloc(), text)
+            == Ok(Some((
+                5,
+                [[1, 1, 0], [-1, 1, 0], [0, 0, 2]],
+                2,
+                [2, 0, -1],
+                8,
+                [9, 10]
+            )))
+    );
+}
+
+#[test]
+fn a_subgroup_may_lack_generators(rt: HostRuntime) {
+    let text = "subgroup\nbasis 2 0 0 0 1 0 0 0 1\norigin 0 0 0";
+    assert!(rt; input_read(rt.alloc(), text) == Ok(([0, 0, 0], 0, 3)));
+    assert!(rt;
+        subgroup_read(rt.alloc(), text)
+            == Ok(Some((
+                2,
+                [[2, 0, 0], [0, 1, 0], [0, 0, 1]],
+                1,
+                [0, 0, 0],
+                1,
+                [0, 0]
+            )))
+    );
+    assert!(rt; subgroup_read(rt.alloc(), "x,y,z\n") == Ok(None));
+}
+
+// Appends the triplets of generators, one a line.
+fn push_generators(alloc: Global, text: &mut Vec<u8>, lines: &[GenLine]) -> Result<(), Fail> {
+    for line in lines {
+        let triplet = print_triplet(alloc, &line.op)?;
+        text.extend_from_slice(&triplet)?;
+        text.push(b'\n')?;
+    }
+    Ok(())
+}
+
+// Appends three fractions over one denominator, with a blank before each.
+fn push_row(alloc: Global, text: &mut Vec<u8>, row: [i64; 3], den: u32) -> Result<(), Fail> {
+    let [x, y, z] = row;
+    text.extend_from_slice(format!(in alloc; " {x}/{den} {y}/{den} {z}/{den}")?.as_bytes())?;
+    Ok(())
+}
+
+// The lines of the generators of an input, and those of its subgroup's section.
+fn printed(alloc: Global, input: &Input<Dense>) -> Result<Vec<u8>, Fail> {
+    let mut text = Vec::new(alloc);
+    push_generators(alloc, &mut text, &input.gens)?;
+    if let Some(sub) = &input.sub {
+        let setting = sub.setting;
+        let [first, second, third] = setting.num;
+        let shift = setting.shift;
+        let origin = shift.num;
+        text.extend_from_slice(b"subgroup\nbasis")?;
+        push_row(alloc, &mut text, first, setting.den)?;
+        push_row(alloc, &mut text, second, setting.den)?;
+        push_row(alloc, &mut text, third, setting.den)?;
+        text.extend_from_slice(b"\norigin")?;
+        push_row(alloc, &mut text, origin, shift.den)?;
+        text.push(b'\n')?;
+        push_generators(alloc, &mut text, &sub.gens)?;
+    }
+    Ok(text)
+}
+
+#[test]
+fn a_printed_section_is_read_back(rt: HostRuntime) -> Result<(), Fail> {
+    let given =
+        "'X + 1/2, y,z'\n-y,x,z\n# c\nsubgroup\nbasis 1/2 2/4 0 -1/2 1/2 0 0 0 2\n origin 1/4 0 -1/8\nx,y,-1z\n";
+    let text =
+        "x+1/2,y,z\n-y,x,z\nsubgroup\nbasis 1/2 1/2 0/2 -1/2 1/2 0/2 0/2 0/2 4/2\norigin 2/8 0/8 -1/8\nx,y,-z\n";
+    for input in [given, text] {
+        match read_input::<Dense>(rt.alloc(), input.as_bytes()) {
+            Ok(read) => {
+                let again = printed(rt.alloc(), &read)?;
+                assert!(rt; again.as_slice() == text.as_bytes(), "at {input}");
+            }
+            Err(_) => assert!(rt; false, "at {input}"),
+        }
+    }
+    assert!(rt; input_read(rt.alloc(), text) == Ok(([1, 2, 0], 0, 6)));
+    assert!(rt;
+        subgroup_read(rt.alloc(), text)
+            == Ok(Some((
+                4,
+                [[1, 1, 0], [-1, 1, 0], [0, 0, 4]],
+                2,
+                [2, 0, -1],
+                8,
+                [6, 0]
+            )))
+    );
+    Ok(())
+}
+
+#[test]
+fn a_report_stands_behind_a_subgroup(rt: HostRuntime) {
+    let text =
+        "x,y,z\nsubgroup\nbasis 1 0 0 0 1 0 0 0 1\norigin 0 0 0\nx,y,z\nreport 1\nwave 0,0,0\norder 1\nops 1\nop 1 x,y,z\nreps 1\nrep S1 dim 1\nchar 1\nmat 1 1\nend\n";
+    assert!(rt; input_read(rt.alloc(), text) == Ok(([1, 0, 0], 1, 15)));
+    assert!(rt;
+        subgroup_read(rt.alloc(), text)
+            == Ok(Some((
+                3,
+                [[1, 0, 0], [0, 1, 0], [0, 0, 1]],
+                1,
+                [0, 0, 0],
+                1,
+                [5, 0]
+            )))
+    );
+}
+
+#[test]
+fn a_line_of_another_sort_is_faulty_at_its_first_byte(rt: HostRuntime) {
+    for (text, line) in [
+        ("basis 1 0 0 0 1 0 0 0 1\n", 1),
+        ("x,y,z\n  origin x\n", 2),
+        ("subgroup\nx,y,z\n", 2),
+        ("subgroup\n#\nx,y\n", 3),
+        ("subgroup\nsubgroup\n", 2),
+        ("subgroup\nsubgroup x\n", 2),
+        ("subgroup\norigin 0 0 0\n", 2),
+        ("subgroup\nreport 1\n", 2),
+        ("subgroup\nbasis,1\n", 2),
+        ("subgroup\nbasis 1 0 0 0 1 0 0 0 1\nx,y,z\n", 3),
+        ("subgroup\nbasis 1 0 0 0 1 0 0 0 1\nreport 1\n", 3),
+        ("subgroup\nbasis 1 0 0 0 1 0 0 0 1\nbasis 1\n", 3),
+        (
+            "subgroup\nbasis 1 0 0 0 1 0 0 0 1\norigin 0 0 0\nsubgroup\n",
+            4,
+        ),
+        (
+            "subgroup\nbasis 1 0 0 0 1 0 0 0 1\norigin 0 0 0\nx,y,z\nbasis 1\n",
+            5,
+        ),
+    ] {
+        let reason = Reason::Shape(0);
+        assert!(rt;
+            input_read(rt.alloc(), text) == Err(InputError::Bad { line, reason }),
+            "at {text}"
+        );
+    }
+}
+
+#[test]
+fn lines_of_a_subgroup_are_faulty_at_their_places(rt: HostRuntime) {
+    for (text, line, reason) in [
+        ("subgroup x\n", 1, Reason::Shape(9)),
+        ("x,y,z\n  subgroup\t\tbasis\n", 2, Reason::Shape(12)),
+        ("subgroup\nbasis 1 0 0 0 1 0 0 0\n", 2, Reason::Shape(21)),
+        ("subgroup\nbasis 1/0 0 0 0 1 0 0 0 1\n", 2, Reason::Zero(8)),
+        ("subgroup\nbasis 101 0 0 0 1 0 0 0 1\n", 2, Reason::Range(6)),
+        (
+            "subgroup\nbasis 1/3 0 0 0 1/5 0 0 0 1/7\n",
+            2,
+            Reason::Range(29),
+        ),
+        (
+            "subgroup\nbasis 1 0 0 0 1 0 0 0 1\norigin 0 0 1001\n",
+            3,
+            Reason::Range(11),
+        ),
+        (
+            "subgroup\nbasis 1 0 0 0 1 0 0 0 1\norigin 0 0 0\nx,y\n",
+            4,
+            Reason::Shape(3),
+        ),
+        (
+            "subgroup\nbasis 1 0 0 0 1 0 0 0 1\norigin 0 0 0\nreport 1\n",
+            5,
+            Reason::Report,
+        ),
+    ] {
+        assert!(rt;
+            input_read(rt.alloc(), text) == Err(InputError::Bad { line, reason }),
+            "at {text}"
+        );
+    }
+}
+
+#[test]
+fn a_basis_or_an_origin_may_be_missing(rt: HostRuntime) {
+    for (text, line) in [
+        ("subgroup", 2),
+        ("x,y,z\nsubgroup\n", 3),
+        ("x,y,z\nsubgroup\n\n#", 5),
+        ("subgroup\nbasis 1 0 0 0 1 0 0 0 1\n", 3),
+        ("subgroup\nbasis 1 0 0 0 1 0 0 0 1\n \n\n", 5),
+    ] {
+        let reason = Reason::Missing;
         assert!(rt;
             input_read(rt.alloc(), text) == Err(InputError::Bad { line, reason }),
             "at {text}"

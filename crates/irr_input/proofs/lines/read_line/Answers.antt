@@ -1,10 +1,10 @@
 use Rattle.std.proofs.Common.{refl, sym, subst, rules}
 use Rattle.std.specs.Prelude.{IsTrue}
 use Rattle.irr_input.specs.declared.input.InputError.{InputError}
-use Rattle.irr_input.specs.InputLines.{IsSkipped}
+use Rattle.irr_input.specs.SectionLines.{IsSkipped}
 use Rattle.irr_input.specs.LineReading.{IsLineFault}
 use Rattle.irr_input.specs.LineReading.IsLineRead.{skipped, generator}
-use Rattle.irr_input.proofs.input.read_line.Goals as goal
+use Rattle.irr_input.proofs.lines.read_line.Goals as goal
 
 pub returns-then-is_skipped-clause-read : goal.returns-then-is_skipped-clause-read
 returns-then-is_skipped-clause-read c = skipped (c.is_skipped.ensures.0 c.if-is_skipped.true) refl

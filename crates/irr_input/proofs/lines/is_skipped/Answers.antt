@@ -3,7 +3,7 @@ use Rattle.std.proofs.Common.{◌≡◌, refl, sym, ◌∙◌, ap, subst, [], in
 use Rattle.std.proofs.lemmas.Grind.{common_steps}
 use Rattle.irr_token.specs.Reading.{BeginsWith}
 use Rattle.irr_input.proofs.SkippedLines.{parted, skipped-rest, empty-list}
-use Rattle.irr_input.proofs.input.is_skipped.Goals as goal
+use Rattle.irr_input.proofs.lines.is_skipped.Goals as goal
 
 pub returns-then-is_empty : goal.returns-then-is_empty
 returns-then-is_empty c =
