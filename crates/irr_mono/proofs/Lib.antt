@@ -1,0 +1,10 @@
+pub mod Truth
+pub mod Tables
+pub mod Entries
+pub mod Products
+pub mod Multiples
+pub mod ColumnPowers
+pub mod Sizes
+pub mod MonomialSizes
+pub mod MonomialForms
+pub mod Trial
