@@ -3,7 +3,7 @@
 --   verdict_within    and the order that it needs is within the limit
 --   no_verdict_along  so is an order that is too large
 --   input_complete    Yes on a report that was read means a complete list
-use Rattle.std.proofs.Common.{◌≡◌, ◌<◌, ◌≤◌, ap, subst, refl, ℕ, List, Some}
+use Rattle.std.proofs.Common.{◌≡◌, ◌<◌, ◌≤◌, ap, subst, refl, ℕ, List, Option, Some}
 use Rattle.irr_space.specs.Operation.{Operation}
 use Rattle.irr_space.specs.Reciprocal.{Sign, IsOrder}
 use Rattle.irr_space.specs.Reciprocal.Sign.{minus}
@@ -13,6 +13,7 @@ use Rattle.irr_seitz.specs.declared.op.Op.{Op}
 use Rattle.irr_triplet.specs.TripletFault.{IsTextOf}
 use Rattle.irr_report.specs.ReportFault.{IsWaveText}
 use Rattle.irr_report.proofs.ReadLimits.{read-limited}
+use Rattle.irr_input.specs.Stages.{SubContent}
 use Rattle.irr_input.specs.InputLines.{IsInput}
 use Rattle.irr_input.specs.declared.input.GenLine.{GenLine}
 use Rattle.irr_close.specs.StandsFor.{stands_for}
@@ -61,8 +62,8 @@ module _ (group : Group) (gens : List Op) (is : IsGroupOf group gens) (r : Repor
   pub no_verdict_along : (n : ℕ) → IsOrder G r.wave n → order_limit < n → IsTooLargeAt (check r) (group_of gens) n
   no_verdict_along n o l = first_above (check r) (group_of gens) n (refl, order_there n o) l
 
-pub input_complete : (bytes : List ℕ) (lines : List GenLine) (gens : List Op) (r : ReportContent)
-    → IsInput bytes lines (Some r)
+pub input_complete : (bytes : List ℕ) (lines : List GenLine) (sub : Option SubContent) (gens : List Op) (r : ReportContent)
+    → IsInput bytes lines sub (Some r)
     → IsVerdict meaning minus (group_of gens) r Yes → IsCompleteReport minus (group_of gens) r
-input_complete bytes lines gens r i verdict = meant_is_complete minus (group_of gens) r
-    (read-limited IsWaveText IsTextOf i.section r i.is_section.1).some_row verdict
+input_complete bytes lines sub gens r i verdict = meant_is_complete minus (group_of gens) r
+    (read-limited IsWaveText IsTextOf i.comes.at_end.1.1.lines r i.comes.at_end.1.1.report).some_row verdict

@@ -1,6 +1,9 @@
+pub mod PassedLimits
+pub mod OneSubgroup
 pub mod OneAnswer
 pub mod LineNumbers
 pub mod InputBytes
+pub mod LimitedSections
 pub mod Numerators
 pub mod Groups
 pub mod Outcomes
@@ -22,6 +25,9 @@ pub mod StarTexts
 pub mod FullTexts
 pub mod ProductsAlong
 pub mod ProductTexts
+pub mod SubgroupsAlong
+pub mod Subgroups
+pub mod SubduceTexts
 pub mod CompatsAlong
 pub mod CompatTexts
 pub mod RealTexts

@@ -1,7 +1,7 @@
 -- Words and bytes ask for one status: so does each stage.
 --   asked_once       the status
 --   reads_made       a command that reads an input has no number of a made one
-use Rattle.std.proofs.Common.{◌≡◌, ◌≢◌, refl, sym, ◌∙◌, ap, ap₂, subst, ℕ, ◌+◌, Bool, nat_eq, List, [], ◌∷◌, Option, Some, None, length}
+use Rattle.std.proofs.Common.{◌≡◌, refl, sym, ◌∙◌, ap, ap₂, subst, ℕ, ◌+◌, Bool, nat_eq, List, [], ◌∷◌, Option, Some, None, length}
 use Rattle.std.specs.Prelude.{codes, if◌then◌else◌}
 use lib.Pointwise.{pointwise}
 use Rattle.irr_space.specs.Operation.{Operation, Vector, WaveVector}
@@ -14,6 +14,7 @@ use Rattle.irr_gen.specs.MadeInput.{IsMadeInput, made_wave}
 use Rattle.irr_gen.proofs.OneInput.{one_text}
 use Rattle.irr_input.specs.Command.{AreOneCommand, Argument, arguments_of, verb_of, verb_word}
 use Rattle.irr_input.specs.Command.Argument.{wave, point, form, number}
+use Rattle.irr_input.specs.Stages.{SubContent}
 use Rattle.irr_input.specs.InputLines.{IsInput, HasLines}
 use Rattle.irr_input.specs.declared.form.Form.{Form}
 use Rattle.irr_input.specs.declared.form.Form.TheVariants.{Rank1}
@@ -24,18 +25,15 @@ use Rattle.irr_rat.specs.VectorMeaning.{vector}
 use Rattle.irr_input.proofs.PointTexts.{zero_point}
 use Rattle.irr_input.proofs.WaveTexts.{zero_wave}
 use Rattle.irr_input.proofs.WordForms.{faulty_unique, words_unique}
-use Rattle.irr_close.specs.StandsFor.{IsRefusal, IsAccepted}
-use Rattle.irr_close.specs.declared.CloseError.{CloseError}
-use Rattle.irr_close.specs.declared.CloseError.TheVariants.{Rotations as many_rotations, Denominator as large_denominator, Centrings as many_centrings, Memory as no_memory}
 use Rattle.irr_check.specs.Trials.Reading.{meaning}
 use Rattle.irr_check.proofs.OneVerdict.{one_verdict}
 use Rattle.irr_top.specs.GroupOf.{group_of}
 use Rattle.irr_top.specs.CheckCommand.{verdict_status}
 use Rattle.irr_top.specs.Question.{Question, question_of}
-use Rattle.irr_top.specs.Question.Question.{star, small, full, product, compat, real, square, tensor, site, check, summary}
+use Rattle.irr_top.specs.Question.Question.{star, small, full, product, subduce, compat, real, square, tensor, site, check, summary}
 use Rattle.irr_top.specs.Answer.{AsksOfGroup, IsReply, order_limit}
 use Rattle.irr_top.specs.Answer.AsksOfGroup.{order_too_large, reply}
-use Rattle.irr_top.specs.Asked.{Asks, AsksOfRequest, IsInputOf, AsksOfBytes, AsksOfLines, AsksOfInput, AsksOfGenerators, input_limit, operations_of, passed_limit}
+use Rattle.irr_top.specs.Asked.{Asks, AsksOfRequest, IsInputOf, AsksOfBytes, AsksOfLines, AsksOfInput, AsksOfGenerators, input_limit, operations_of}
 use Rattle.irr_top.specs.Asked.AsksOfGenerators.{refused, group}
 use Rattle.irr_top.specs.Asked.AsksOfInput.{missing, question}
 use Rattle.irr_top.specs.Asked.AsksOfLines.{faulty_line, limited_line, input}
@@ -43,11 +41,12 @@ use Rattle.irr_top.specs.Asked.AsksOfBytes.{too_long, lines}
 use Rattle.irr_top.specs.Asked.Asks.{faulty_word, request}
 use Rattle.irr_top.specs.Request.{command_of, made_number, IsCommand, IsRequested, ReadsInput}
 use Rattle.irr_top.specs.declared.request.Request.{Request}
-use Rattle.irr_top.specs.declared.request.Request.TheVariants.{Star, Small, Full, Product, Compat, Real, Square, Tensor, Site, Check, Gen}
+use Rattle.irr_top.specs.declared.request.Request.TheVariants.{Star, Small, Full, Product, Subduce, Compat, Real, Square, Tensor, Site, Check, Gen}
 use Rattle.irr_top.specs.declared.status.Status.{Status}
 use Rattle.irr_top.specs.declared.status.Status.TheVariants.{Usage, BadInput, TooLarge}
-use Rattle.irr_top.specs.declared.status.Kind.{Kind}
 use Rattle.irr_top.specs.declared.status.Kind.TheVariants.{Report, Order}
+use Rattle.irr_top.proofs.PassedLimits.{limit_once, passes, refused_or_accepted}
+use Rattle.irr_top.proofs.OneSubgroup.{one_reply}
 use Rattle.irr_top.proofs.LineNumbers.{line_count_once}
 use Rattle.irr_top.proofs.Orders.{large_once, within_or_above}
 use Rattle.irr_top.proofs.SameGenerators.{AreSame, same_operations, operations_same, refusal_along, accepted_along}
@@ -60,6 +59,7 @@ reply_once (star k) G s t x y a b = a.0 ∙ sym b.0
 reply_once (small k) G s t x y a b = a.0 ∙ sym b.0
 reply_once (full k) G s t x y a b = a.0 ∙ sym b.0
 reply_once (product k l) G s t x y a b = a.0 ∙ sym b.0
+reply_once (subduce k S) G s t x y a b = one_reply G S k a b
 reply_once (compat k others) G s t x y a b = a.0 ∙ sym b.0
 reply_once (real k) G s t x y a b = a.0 ∙ sym b.0
 reply_once (square k) G s t x y a b = a.0 ∙ sym b.0
@@ -76,39 +76,6 @@ group_once q G (reply w a) (order_too_large {n = n} b) = absurd (within_or_above
 group_once q G {s = s} {t = t} {x = x} {y = y} (reply w a) (reply v b) = reply_once q G s t x y a b
 
 -- of generators
-
-passes : (e : CloseError) {kind : Kind} → passed_limit e ≡ Some kind → e ≢ no_memory
-passes e {kind} p f = let n : None ≡ Some kind = subst (λ x. passed_limit x ≡ Some kind) f p in cc
-
-refusal_unique : (gens : List Op) (d e : CloseError) → d ≢ no_memory → e ≢ no_memory → IsRefusal gens d
-    → IsRefusal gens e → d ≡ e
-refusal_unique gens no_memory e m n p q = absurd (m refl)
-refusal_unique gens many_rotations many_rotations m n p q = refl
-refusal_unique gens many_rotations large_denominator m n p q = absurd (p q.0)
-refusal_unique gens many_rotations many_centrings m n p q = absurd (p q.0)
-refusal_unique gens many_rotations no_memory m n p q = absurd (n refl)
-refusal_unique gens large_denominator many_rotations m n p q = absurd (q p.0)
-refusal_unique gens large_denominator large_denominator m n p q = refl
-refusal_unique gens large_denominator many_centrings m n p q = absurd (p.1 q.1)
-refusal_unique gens large_denominator no_memory m n p q = absurd (n refl)
-refusal_unique gens many_centrings many_rotations m n p q = absurd (q p.0)
-refusal_unique gens many_centrings large_denominator m n p q = absurd (q.1 p.1)
-refusal_unique gens many_centrings many_centrings m n p q = refl
-refusal_unique gens many_centrings no_memory m n p q = absurd (n refl)
-
-refused_or_accepted : (gens : List Op) (e : CloseError) → e ≢ no_memory → IsRefusal gens e → IsAccepted gens → ⊥
-refused_or_accepted gens many_rotations n r a = r a.rotations
-refused_or_accepted gens large_denominator n r a = r.1 a.denominator
-refused_or_accepted gens many_centrings n r a = r.2 a.centrings
-refused_or_accepted gens no_memory n r a = n refl
-
-limit_once : (gens : List Op) (d e : CloseError) {k l : Kind} → passed_limit d ≡ Some k → passed_limit e ≡ Some l
-    → IsRefusal gens d
-    → IsRefusal gens e → k ≡ l
-limit_once gens d e {k} {l} p q r u =
-    let same : d ≡ e = refusal_unique gens d e (passes d p) (passes e q) r u in
-    let some : Some k ≡ Some l = sym p ∙ ap passed_limit same ∙ q in
-    cc
 
 generators_once : (q : Question) (gens : List Op) {s t : Status} {x y : List ℕ} → AsksOfGenerators q gens s x
     → AsksOfGenerators q gens t y → s ≡ t
@@ -172,6 +139,10 @@ number_at (point x ∷ args) = 0
 number_at (form f ∷ args) = 0
 number_at (number n ∷ args) = n
 
+restriction : WaveVector → Option SubContent → Option Question
+restriction k None = None
+restriction k (Some S) = Some (subduce k S)
+
 verdict : Option ReportContent → Option Question
 verdict None = None
 verdict (Some r) = Some (check r)
@@ -179,42 +150,46 @@ verdict (Some r) = Some (check r)
 is_word : List ℕ → List ℕ → Bool
 is_word = pointwise nat_eq
 
-asks : List ℕ → List Argument → Option ReportContent → ℕ → Option Question
-asks w args c n = if is_word w (codes "star") then Some (star (wave_at args))
+asks : List ℕ → List Argument → Option SubContent → Option ReportContent → ℕ → Option Question
+asks w args o c n = if is_word w (codes "star") then Some (star (wave_at args))
     else (if is_word w (codes "small") then Some (small (wave_at args))
     else (if is_word w (codes "full") then Some (full (wave_at args))
     else (if is_word w (codes "product") then Some (product (wave_at args) (wave_at (others args)))
+    else (if is_word w (codes "subduce") then restriction (wave_at args) o
     else (if is_word w (codes "compat") then Some (compat (wave_at args) (waves_at (others args)))
     else (if is_word w (codes "real") then Some (real (wave_at args))
     else (if is_word w (codes "square") then Some (square (wave_at args))
     else (if is_word w (codes "tensor") then Some (tensor (form_at args))
     else (if is_word w (codes "site") then Some (site (point_at args) (wave_at (others args)))
     else (if is_word w (codes "check") then verdict c
-    else Some (summary (number_at args) n (made_wave (number_at args))))))))))))
+    else Some (summary (number_at args) n (made_wave (number_at args)))))))))))))
 
-asks_of : (r : Request) (c : Option ReportContent) (n : ℕ)
-    → asks (verb_word (verb_of (command_of r))) (arguments_of (command_of r)) c n ≡ question_of r c n
-unfolding asks is_word wave_at waves_at form_at point_at number_at others verdict
-asks_of (Star k) c n = refl
-asks_of (Small k) c n = refl
-asks_of (Full k) c n = refl
-asks_of (Product k l) c n = refl
-asks_of (Compat k l None) c n = refl
-asks_of (Compat k l (Some m)) c n = refl
-asks_of (Real k) c n = refl
-asks_of (Square k) c n = refl
-asks_of (Tensor f) c n = refl
-asks_of (Site x k) c n = refl
-asks_of Check None n = refl
-asks_of Check (Some r) n = refl
-asks_of (Gen m) c n = refl
+asks_of : (r : Request) (o : Option SubContent) (c : Option ReportContent) (n : ℕ)
+    → asks (verb_word (verb_of (command_of r))) (arguments_of (command_of r)) o c n ≡ question_of r o c n
+unfolding asks is_word wave_at waves_at form_at point_at number_at others restriction verdict
+asks_of (Star k) o c n = refl
+asks_of (Small k) o c n = refl
+asks_of (Full k) o c n = refl
+asks_of (Product k l) o c n = refl
+asks_of (Subduce k) None c n = refl
+asks_of (Subduce k) (Some S) c n = refl
+asks_of (Compat k l None) o c n = refl
+asks_of (Compat k l (Some m)) o c n = refl
+asks_of (Real k) o c n = refl
+asks_of (Square k) o c n = refl
+asks_of (Tensor f) o c n = refl
+asks_of (Site x k) o c n = refl
+asks_of Check o None n = refl
+asks_of Check o (Some r) n = refl
+asks_of (Gen m) o c n = refl
 
-question_once : (r q : Request) (c d : Option ReportContent) (m n : ℕ) → AreOneCommand (command_of r) (command_of q) → c ≡ d → m ≡ n
-    → question_of r c m ≡ question_of q d n
-question_once r q c d m n h e f = sym (asks_of r c m)
-    ∙ ap₂ (λ w args. asks w args c m) (ap verb_word h.verb) h.arguments
-    ∙ ap₂ (asks (verb_word (verb_of (command_of q))) (arguments_of (command_of q))) e f
-    ∙ asks_of q d n
+question_once : (r q : Request) (o p : Option SubContent) (c d : Option ReportContent) (m n : ℕ) → AreOneCommand (command_of r) (command_of q)
+    → o ≡ p → c ≡ d → m ≡ n → question_of r o c m ≡ question_of q p d n
+question_once r q o p c d m n h u e f = sym (asks_of r o c m)
+    ∙ ap₂ (λ w args. asks w args o c m) (ap verb_word h.verb) h.arguments
+    ∙ ap (λ x. asks (verb_word (verb_of (command_of q))) (arguments_of (command_of q)) x c m) u
+    ∙ ap₂ (asks (verb_word (verb_of (command_of q))) (arguments_of (command_of q)) p) e f
+    ∙ asks_of q p d n
 
 -- the number of a made input, of the word of a command and its arguments
 made : List ℕ → List Argument → Option ℕ
@@ -226,6 +201,7 @@ made_of (Star k) = refl
 made_of (Small k) = refl
 made_of (Full k) = refl
 made_of (Product k l) = refl
+made_of (Subduce k) = refl
 made_of (Compat k l None) = refl
 made_of (Compat k l (Some m)) = refl
 made_of (Real k) = refl
@@ -242,18 +218,18 @@ pub reads_made : (words : List (List ℕ)) (r : Request) → IsRequested words r
 reads_made words r is x = made_once r x.0 (words_unique words (command_of r) (command_of x.0) is x.1) ∙ x.2
 
 -- two readings of one input by one command
-module _ (r q : Request) (c d : Option ReportContent) (gens hens : List Op) (m n : ℕ) (one : question_of r c m ≡ question_of q d n)
-    (same : AreSame gens hens) (lines_same : m ≡ n) where
-  missing_or_not : {k : Question} → question_of r c m ≡ None → question_of q d n ≡ Some k → ⊥
+module _ (r q : Request) (o p : Option SubContent) (c d : Option ReportContent) (gens hens : List Op) (m n : ℕ)
+    (one : question_of r o c m ≡ question_of q p d n) (same : AreSame gens hens) (lines_same : m ≡ n) where
+  missing_or_not : {k : Question} → question_of r o c m ≡ None → question_of q p d n ≡ Some k → ⊥
   missing_or_not {k} a b = let f : None ≡ Some k = sym a ∙ one ∙ b in cc
 
-  found_or_not : {k : Question} → question_of r c m ≡ Some k → question_of q d n ≡ None → ⊥
+  found_or_not : {k : Question} → question_of r o c m ≡ Some k → question_of q p d n ≡ None → ⊥
   found_or_not {k} a b = let f : Some k ≡ None = sym a ∙ one ∙ b in cc
 
-  same_question : (k l : Question) → question_of r c m ≡ Some k → question_of q d n ≡ Some l → k ≡ l
+  same_question : (k l : Question) → question_of r o c m ≡ Some k → question_of q p d n ≡ Some l → k ≡ l
   same_question k l a b = let f : Some k ≡ Some l = sym a ∙ one ∙ b in cc
 
-  pub input_once : {s t : Status} {x y : List ℕ} → AsksOfInput r gens c m s x → AsksOfInput q hens d n t y → s ≡ t
+  pub input_once : {s t : Status} {x y : List ℕ} → AsksOfInput r gens o c m s x → AsksOfInput q hens p d n t y → s ≡ t
   input_once (missing a) (missing b) = ap (λ i. BadInput (i + 1) Missing) lines_same
   input_once (missing a) (question k b g) = absurd (missing_or_not a b)
   input_once (question k a g) (missing b) = absurd (found_or_not a b)
@@ -262,27 +238,27 @@ module _ (r q : Request) (c d : Option ReportContent) (gens hens : List Op) (m n
 
 -- of bytes
 module _ (r q : Request) (one : AreOneCommand (command_of r) (command_of q)) (bytes : List ℕ) where
-  inputs_once : (ks ls : List GenLine) (c d : Option ReportContent) (m n : ℕ) → IsInput bytes ks c
-      → IsInput bytes ls d → HasLines bytes m
-      → HasLines bytes n → {s t : Status} {x y : List ℕ} → AsksOfInput r (operations_of ks) c m s x
-      → AsksOfInput q (operations_of ls) d n t y → s ≡ t
-  inputs_once ks ls c d m n i j h g a b =
-      let both = input_unique bytes ks ls c d i j in
+  inputs_once : (ks ls : List GenLine) (o p : Option SubContent) (c d : Option ReportContent) (m n : ℕ) → IsInput bytes ks o c
+      → IsInput bytes ls p d → HasLines bytes m
+      → HasLines bytes n → {s t : Status} {x y : List ℕ} → AsksOfInput r (operations_of ks) o c m s x
+      → AsksOfInput q (operations_of ls) p d n t y → s ≡ t
+  inputs_once ks ls o p c d m n i j h g a b =
+      let all = input_unique bytes ks ls o p c d i j in
       let count : m ≡ n = line_count_once bytes m n h g in
-      input_once r q c d (operations_of ks) (operations_of ls) m n (question_once r q c d m n one both.1 count)
-      (same_operations ks ls both.0) count a b
+      input_once r q o p c d (operations_of ks) (operations_of ls) m n (question_once r q o p c d m n one all.1 all.2 count)
+      (same_operations ks ls all.0) count a b
 
   lines_once : {s t : Status} {x y : List ℕ} → AsksOfLines r bytes s x → AsksOfLines q bytes t y → s ≡ t
   lines_once (faulty_line {n = m} {reason = a} f) (faulty_line {n = n} {reason = b} g) =
       let same = faulty_line_unique bytes m n a b f g in ap₂ BadInput same.0 same.1
   lines_once (faulty_line {n = m} {reason = a} f) (limited_line {n = n} g) = absurd (fault_or_limit bytes m n a f g)
-  lines_once (faulty_line {n = m} {reason = a} f) (input ls c n i h b) = absurd (input_or_fault bytes ls c m a i f)
+  lines_once (faulty_line {n = m} {reason = a} f) (input ls o c n i h b) = absurd (input_or_fault bytes ls o c m a i f)
   lines_once (limited_line {n = m} f) (faulty_line {n = n} {reason = b} g) = absurd (fault_or_limit bytes n m b g f)
   lines_once (limited_line {n = m} f) (limited_line {n = n} g) = ap (λ i. TooLarge (Report i)) (limit_line_unique bytes m n f g)
-  lines_once (limited_line {n = m} f) (input ls c n i h b) = absurd (input_or_limit bytes ls c m i f)
-  lines_once (input ls c n i h a) (faulty_line {n = m} {reason = b} g) = absurd (input_or_fault bytes ls c m b i g)
-  lines_once (input ls c n i h a) (limited_line {n = m} g) = absurd (input_or_limit bytes ls c m i g)
-  lines_once (input ks c m i h a) (input ls d n j g b) = inputs_once ks ls c d m n i j h g a b
+  lines_once (limited_line {n = m} f) (input ls o c n i h b) = absurd (input_or_limit bytes ls o c m i f)
+  lines_once (input ls o c n i h a) (faulty_line {n = m} {reason = b} g) = absurd (input_or_fault bytes ls o c m b i g)
+  lines_once (input ls o c n i h a) (limited_line {n = m} g) = absurd (input_or_limit bytes ls o c m i g)
+  lines_once (input ks o c m i h a) (input ls p d n j g b) = inputs_once ks ls o p c d m n i j h g a b
 
   pub bytes_once : {s t : Status} {x y : List ℕ} → AsksOfBytes r bytes s x → AsksOfBytes q bytes t y → s ≡ t
   bytes_once (too_long l) (too_long h) = refl

@@ -13,7 +13,7 @@ use Rattle.irr_product.proofs.PairOrders.{pair_order_unique}
 use Rattle.irr_power.specs.Tensors.{origin}
 use Rattle.irr_top.specs.CompatCommand.{point_of}
 use Rattle.irr_top.specs.Question.{Question, IsNeededOrder}
-use Rattle.irr_top.specs.Question.Question.{star, small, full, product, compat, real, square, tensor, site, check, summary}
+use Rattle.irr_top.specs.Question.Question.{star, small, full, product, subduce, compat, real, square, tensor, site, check, summary}
 use Rattle.irr_top.specs.Answer.{IsTooLargeAt, order_limit}
 
 zero_or_one : (i : ℕ) → i ≡ 0 → i ≡ 1 → ⊥
@@ -28,6 +28,7 @@ needed_once (product k l) G i m n (inl p) (inl o) = order_unique G k m n p.1 o.1
 needed_once (product k l) G i m n (inl p) (inr o) = absurd (zero_or_one i p.0 o.0)
 needed_once (product k l) G i m n (inr p) (inl o) = absurd (zero_or_one i o.0 p.0)
 needed_once (product k l) G i m n (inr p) (inr o) = pair_order_unique G k l m n p.1 o.1
+needed_once (subduce k S) G i m n p o = order_unique G k m n p.2 o.2
 needed_once (compat k others) G i m n p o = line_order_unique G (point_of i k others) m n p.1 o.1
 needed_once (real k) G i m n p o = order_unique G k m n p.1 o.1
 needed_once (square k) G i m n p o = order_unique G k m n p.1 o.1

@@ -11,7 +11,7 @@ use Rattle.irr_input.specs.declared.words.Command.{Command}
 use Rattle.irr_input.specs.declared.words.Command.TheVariants as commands
 use Rattle.irr_input.proofs.WaveTexts.{zero-text, zero_wave}
 use Rattle.irr_top.specs.Request.{BeginsServed, IsCommand, IsFaultyWord, IsServed}
-use Rattle.irr_top.specs.declared.request.Request.TheVariants.{Star, Small, Full, Product, Compat, Real, Square, Tensor, Site, Check, Gen}
+use Rattle.irr_top.specs.declared.request.Request.TheVariants.{Star, Small, Full, Product, Subduce, Compat, Real, Square, Tensor, Site, Check, Gen}
 
 served_command : (words : List (List ℕ)) (c : Command) → AreWords words c → IsServed c → IsCommand words
 served_command words (commands.Star k) a v = (Star k, a)
@@ -19,7 +19,7 @@ served_command words (commands.Small k) a v = (Small k, a)
 served_command words (commands.Full k) a v = (Full k, a)
 served_command words (commands.Real k) a v = (Real k, a)
 served_command words (commands.Product k l) a v = (Product k l, a)
-served_command words (commands.Subduce k) a v = absurd v
+served_command words (commands.Subduce k) a v = (Subduce k, a)
 served_command words (commands.Compat k l m) a v = (Compat k l m, a)
 served_command words (commands.Square k) a v = (Square k, a)
 served_command words (commands.Tensor f) a v = (Tensor f, a)
@@ -36,7 +36,7 @@ is_served : List ℕ → Bool
 is_served w = if same w (codes "star") then true else (if same w (codes "small") then true else (if same w (codes "full") then true
     else (if same w (codes "product") then true else (if same w (codes "compat") then true else (if same w (codes "real") then true
     else (if same w (codes "square") then true else (if same w (codes "tensor") then true else (if same w (codes "site") then true
-    else (if same w (codes "check") then true else (if same w (codes "gen") then true else false))))))))))
+    else (if same w (codes "check") then true else (if same w (codes "gen") then true else (if same w (codes "subduce") then true else false)))))))))))
 
 served_word : (w : List ℕ) (ws : List (List ℕ)) → BeginsServed (w ∷ ws) → is_served w ≡ true
 unfolding is_served same
@@ -50,7 +50,8 @@ served_word w ws (inr (inr (inr (inr (inr (inr (inl e))))))) = ap is_served e
 served_word w ws (inr (inr (inr (inr (inr (inr (inr (inl e)))))))) = ap is_served e
 served_word w ws (inr (inr (inr (inr (inr (inr (inr (inr (inl e))))))))) = ap is_served e
 served_word w ws (inr (inr (inr (inr (inr (inr (inr (inr (inr (inl e)))))))))) = ap is_served e
-served_word w ws (inr (inr (inr (inr (inr (inr (inr (inr (inr (inr e)))))))))) = ap is_served e
+served_word w ws (inr (inr (inr (inr (inr (inr (inr (inr (inr (inr (inl e))))))))))) = ap is_served e
+served_word w ws (inr (inr (inr (inr (inr (inr (inr (inr (inr (inr (inr e))))))))))) = ap is_served e
 
 served_verb : (c : Command) → is_served (verb_word (verb_of c)) ≡ true → IsServed c
 unfolding is_served same
@@ -59,7 +60,7 @@ served_verb (commands.Small k) e = tt
 served_verb (commands.Full k) e = tt
 served_verb (commands.Real k) e = tt
 served_verb (commands.Product k l) e = tt
-served_verb (commands.Subduce k) e = cc
+served_verb (commands.Subduce k) e = tt
 served_verb (commands.Compat k l m) e = tt
 served_verb (commands.Square k) e = tt
 served_verb (commands.Tensor f) e = tt
@@ -72,6 +73,7 @@ any_command words (Star k, a) = (commands.Star k, a)
 any_command words (Small k, a) = (commands.Small k, a)
 any_command words (Full k, a) = (commands.Full k, a)
 any_command words (Product k l, a) = (commands.Product k l, a)
+any_command words (Subduce k, a) = (commands.Subduce k, a)
 any_command words (Compat k l m, a) = (commands.Compat k l m, a)
 any_command words (Real k, a) = (commands.Real k, a)
 any_command words (Square k, a) = (commands.Square k, a)
@@ -89,6 +91,7 @@ begins [] (Star k, a) = let e : [] ≡ codes "star" ∷ a.behind = a.spelled in 
 begins [] (Small k, a) = let e : [] ≡ codes "small" ∷ a.behind = a.spelled in cc
 begins [] (Full k, a) = let e : [] ≡ codes "full" ∷ a.behind = a.spelled in cc
 begins [] (Product k l, a) = let e : [] ≡ codes "product" ∷ a.behind = a.spelled in cc
+begins [] (Subduce k, a) = let e : [] ≡ codes "subduce" ∷ a.behind = a.spelled in cc
 begins [] (Compat k l m, a) = let e : [] ≡ codes "compat" ∷ a.behind = a.spelled in cc
 begins [] (Real k, a) = let e : [] ≡ codes "real" ∷ a.behind = a.spelled in cc
 begins [] (Square k, a) = let e : [] ≡ codes "square" ∷ a.behind = a.spelled in cc
@@ -106,7 +109,8 @@ begins (first ∷ ws) (Square k, a) = inr (inr (inr (inr (inr (inr (inl (first_w
 begins (first ∷ ws) (Tensor f, a) = inr (inr (inr (inr (inr (inr (inr (inl (first_word first ws (commands.Tensor f) a))))))))
 begins (first ∷ ws) (Site x k, a) = inr (inr (inr (inr (inr (inr (inr (inr (inl (first_word first ws (commands.Site x k) a)))))))))
 begins (first ∷ ws) (Check, a) = inr (inr (inr (inr (inr (inr (inr (inr (inr (inl (first_word first ws commands.Check a))))))))))
-begins (first ∷ ws) (Gen n, a) = inr (inr (inr (inr (inr (inr (inr (inr (inr (inr (first_word first ws (commands.Gen n) a))))))))))
+begins (first ∷ ws) (Gen n, a) = inr (inr (inr (inr (inr (inr (inr (inr (inr (inr (inl (first_word first ws (commands.Gen n) a)))))))))))
+begins (first ∷ ws) (Subduce k, a) = inr (inr (inr (inr (inr (inr (inr (inr (inr (inr (inr (first_word first ws (commands.Subduce k) a)))))))))))
 
 served_first : (first : List ℕ) (ws : List (List ℕ)) (c : Command) → BeginsServed (first ∷ ws) → AreWords (first ∷ ws) c → IsServed c
 served_first first ws c b a = served_verb c (ap is_served (sym (first_word first ws c a)) ∙ served_word first ws b)

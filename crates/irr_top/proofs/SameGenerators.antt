@@ -2,6 +2,7 @@
 --   AreSame gens hens       they stand for the same operations, one by one
 --   same_operations         the operations on lines are one by one those on lines that say the same
 --   operations_same         so the groups are one
+--   same_of_operations      lists whose operations are equal are so
 --   refusal_along, accepted_along     and pass the same limits
 use Rattle.std.proofs.Common.{◌≡◌, refl, sym, ap, ap₂, subst, ℕ, ◌≤◌, List, [], ◌∷◌, map, arith}
 use Rattle.std.specs.List.{All}
@@ -16,7 +17,8 @@ use Rattle.irr_close.specs.Limits.{operations, HasFewRotations, HasSmallDenomina
 use Rattle.irr_close.specs.StandsFor.{IsRefusal, IsAccepted}
 use Rattle.irr_close.specs.declared.CloseError.{CloseError}
 use Rattle.irr_close.specs.declared.CloseError.TheVariants.{Rotations, Denominator, Centrings, Memory}
-use Rattle.irr_input.specs.InputLines.{Placed, placed}
+use Rattle.irr_input.specs.Stages.{Placed}
+use Rattle.irr_input.specs.InputLines.{placed}
 use Rattle.irr_input.specs.declared.input.GenLine.{GenLine}
 
 pub data AreSame : List Op → List Op → Type 0 where
@@ -42,6 +44,12 @@ flipped (pair e s) = pair (sym e) (flipped s)
 pub operations_same : {gens hens : List Op} → AreSame gens hens → operations gens ≡ operations hens
 operations_same nothing = refl
 operations_same (pair e s) = ap₂ (λ x xs. x ∷ xs) e (operations_same s)
+
+pub same_of_operations : (gens hens : List Op) → operations gens ≡ operations hens → AreSame gens hens
+same_of_operations [] [] e = nothing
+same_of_operations [] (h ∷ hens) e = absurd (cc)
+same_of_operations (g ∷ gens) [] e = absurd (cc)
+same_of_operations (g ∷ gens) (h ∷ hens) e = pair (cc) (same_of_operations gens hens (cc))
 
 denominator_below : (g h : Op) → operation g ≡ operation h → g.den ≤ h.den
 denominator_below g h e =

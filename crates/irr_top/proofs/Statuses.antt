@@ -8,11 +8,12 @@ use Rattle.irr_space.specs.Operation.{Operation}
 use Rattle.irr_seitz.specs.declared.op.Op.{Op}
 use Rattle.irr_io.specs.Views.{SourceView, SinkView, IsAtEnd, ReadFailed, WriteFailed}
 use Rattle.irr_text.specs.ReportText.{ReportContent}
+use Rattle.irr_input.specs.Stages.{SubContent}
 use Rattle.irr_check.specs.declared.verdict.Verdict.{Verdict}
 use Rattle.irr_check.specs.declared.verdict.Verdict.TheVariants.{No, Yes}
 use Rattle.irr_top.specs.CheckCommand.{verdict_status}
 use Rattle.irr_top.specs.Question.{Question}
-use Rattle.irr_top.specs.Question.Question.{star, small, full, product, compat, real, square, tensor, site, check, summary}
+use Rattle.irr_top.specs.Question.Question.{star, small, full, product, subduce, compat, real, square, tensor, site, check, summary}
 use Rattle.irr_top.specs.Answer.{AsksOfGroup, IsReply}
 use Rattle.irr_top.specs.Answer.AsksOfGroup.{order_too_large, reply}
 use Rattle.irr_top.specs.Asked.{Asks, AsksOfRequest, AsksOfBytes, AsksOfLines, AsksOfInput, AsksOfGenerators}
@@ -31,6 +32,7 @@ use Rattle.irr_top.specs.declared.request.Request.{Request}
 use Rattle.irr_top.specs.declared.status.Status.{Status}
 use Rattle.irr_top.specs.declared.status.Status.TheVariants.{Done, Usage, ReadFault, WriteFault, Memory}
 use Rattle.irr_top.proofs.OneAnswer.{asked_once}
+use Rattle.irr_top.proofs.OneSubgroup.{is_no_failure}
 
 verdict_no_failure : (v : Verdict) → IsFailure (verdict_status v) → ⊥
 verdict_no_failure Yes h = h
@@ -42,6 +44,7 @@ reply_no_failure (star k) G s text a h = subst IsFailure a.0 h
 reply_no_failure (small k) G s text a h = subst IsFailure a.0 h
 reply_no_failure (full k) G s text a h = subst IsFailure a.0 h
 reply_no_failure (product k l) G s text a h = subst IsFailure a.0 h
+reply_no_failure (subduce k S) G s text a h = is_no_failure G S k a h
 reply_no_failure (compat k others) G s text a h = subst IsFailure a.0 h
 reply_no_failure (real k) G s text a h = subst IsFailure a.0 h
 reply_no_failure (square k) G s text a h = subst IsFailure a.0 h
@@ -60,8 +63,8 @@ generators_no_failure : {q : Question} {gens : List Op} {s : Status} {text : Lis
 generators_no_failure (refused e p r) h = h
 generators_no_failure (group a g) h = group_no_failure _ _ g h
 
-input_no_failure : {r : Request} {gens : List Op} {c : Option ReportContent} {n : ℕ} {s : Status} {text : List ℕ}
-    → AsksOfInput r gens c n s text → IsFailure s → ⊥
+input_no_failure : {r : Request} {gens : List Op} {sub : Option SubContent} {c : Option ReportContent} {n : ℕ} {s : Status} {text : List ℕ}
+    → AsksOfInput r gens sub c n s text → IsFailure s → ⊥
 input_no_failure (missing e) h = h
 input_no_failure (question q e g) h = generators_no_failure g h
 
@@ -69,7 +72,7 @@ lines_no_failure : {r : Request} {bytes : List ℕ} {s : Status} {text : List �
     → IsFailure s → ⊥
 lines_no_failure (faulty_line f) h = h
 lines_no_failure (limited_line f) h = h
-lines_no_failure (input ls c n i l a) h = input_no_failure a h
+lines_no_failure (input ls sub c n i l a) h = input_no_failure a h
 
 bytes_no_failure : {r : Request} {bytes : List ℕ} {s : Status} {text : List ℕ} → AsksOfBytes r bytes s text
     → IsFailure s → ⊥

@@ -10,11 +10,12 @@ use Rattle.std.specs.Prelude.{ℕ, ◌<◌, ◌≤◌, List}
 use Rattle.irr_cyc.specs.declared.orders.TheConstants.{ORDER_LIMIT}
 use Rattle.irr_space.specs.Operation.{Operation}
 use Rattle.irr_top.specs.Question.{Question, IsNeededOrder}
-use Rattle.irr_top.specs.Question.Question.{star, small, full, product, compat, real, square, tensor, site, check, summary}
+use Rattle.irr_top.specs.Question.Question.{star, small, full, product, subduce, compat, real, square, tensor, site, check, summary}
 use Rattle.irr_top.specs.StarCommand.{IsStarReply}
 use Rattle.irr_top.specs.SmallCommand.{IsSmallReply}
 use Rattle.irr_top.specs.FullCommand.{IsFullReply}
 use Rattle.irr_top.specs.ProductCommand.{IsProductReply}
+use Rattle.irr_top.specs.SubduceCommand.{IsSubduceReply}
 use Rattle.irr_top.specs.CompatCommand.{IsCompatReply}
 use Rattle.irr_top.specs.RealCommand.{IsRealReply}
 use Rattle.irr_top.specs.SquareCommand.{IsSquareReply}
@@ -38,6 +39,7 @@ IsReply (star k) G s text = IsStarReply G k s text
 IsReply (small k) G s text = IsSmallReply G k s text
 IsReply (full k) G s text = IsFullReply G k s text
 IsReply (product k l) G s text = IsProductReply G k l s text
+IsReply (subduce k S) G s text = IsSubduceReply G k S s text
 IsReply (compat k others) G s text = IsCompatReply G k others s text
 IsReply (real k) G s text = IsRealReply G k s text
 IsReply (square k) G s text = IsSquareReply G k s text

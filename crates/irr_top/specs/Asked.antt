@@ -7,11 +7,10 @@
 --   AsksOfBytes r bytes s text         too many bytes; or what the request asks of their lines
 --   AsksOfLines r bytes s text         the first faulty line, or the first that passes a limit; or what it asks of an
 --                                      input
---   AsksOfInput r gens report n s text     the section that the command needs is missing, as is told at the line after
+--   AsksOfInput r gens sub report n s text the section that the command needs is missing, as is told at the line after
 --                                      the last of n lines; or what its question asks of the generators
 --   AsksOfGenerators q gens s text     the first limit that the generators pass; or what the question asks of the group
 --                                      that they generate (AsksOfGroup in Answer.antt)
---   passed_limit e                     the limit that refused generators pass; none at want of memory
 --   operations_of lines                the operations on the lines of an input
 use Rattle.std.specs.Prelude.{ℕ, ◌≡◌, ◌+◌, ◌<◌, ◌≤◌, Option, None, Some, List, length, map}
 use Rattle.irr_space.specs.Operation.{WaveVector}
@@ -19,13 +18,14 @@ use Rattle.irr_text.specs.ReportText.{ReportContent}
 use Rattle.irr_seitz.specs.declared.op.Op.{Op}
 use Rattle.irr_close.specs.StandsFor.{IsRefusal, IsAccepted}
 use Rattle.irr_close.specs.declared.CloseError.{CloseError}
-use Rattle.irr_close.specs.declared.CloseError.TheVariants as refusals
 use Rattle.irr_gen.specs.MadeInput.{IsMadeInput}
+use Rattle.irr_input.specs.Stages.{SubContent}
 use Rattle.irr_input.specs.InputLines.{HasLines, IsFaultyLine, IsInput, IsLimitLine}
 use Rattle.irr_input.specs.declared.input.GenLine.{GenLine}
 use Rattle.irr_input.specs.declared.input.Reason.{Reason}
 use Rattle.irr_input.specs.declared.input.Reason.TheVariants.{Missing}
 use Rattle.irr_top.specs.GroupOf.{group_of}
+use Rattle.irr_top.specs.PassedLimit.{passed_limit}
 use Rattle.irr_top.specs.RefusalText.{refusal_text}
 use Rattle.irr_top.specs.Request.{IsFaultyWord, IsRequested, made_number}
 use Rattle.irr_top.specs.Question.{Question, question_of}
@@ -34,16 +34,10 @@ use Rattle.irr_top.specs.declared.request.Request.{Request}
 use Rattle.irr_top.specs.declared.status.Status.{Status}
 use Rattle.irr_top.specs.declared.status.Status.TheVariants.{Usage, BadInput, TooLarge}
 use Rattle.irr_top.specs.declared.status.Kind.{Kind}
-use Rattle.irr_top.specs.declared.status.Kind.TheVariants.{Bytes, Report, Rotations, Denominator, Centrings}
+use Rattle.irr_top.specs.declared.status.Kind.TheVariants.{Bytes, Report}
 
 abbrev pub input_limit : ℕ
 input_limit = 4194304
-
-abbrev pub passed_limit : CloseError → Option Kind
-passed_limit refusals.Rotations = Some Rotations
-passed_limit refusals.Denominator = Some Denominator
-passed_limit refusals.Centrings = Some Centrings
-passed_limit refusals.Memory = None
 
 abbrev pub operations_of : List GenLine → List Op
 operations_of lines = map (λ (g : GenLine). g.op) lines
@@ -54,20 +48,20 @@ pub data AsksOfGenerators (q : Question) (gens : List Op) : Status → List ℕ 
   group : {s : Status} {text : List ℕ} → IsAccepted gens → AsksOfGroup q (group_of gens) s text
       → AsksOfGenerators q gens s text
 
-pub data AsksOfInput (r : Request) (gens : List Op) (report : Option ReportContent) (n : ℕ)
+pub data AsksOfInput (r : Request) (gens : List Op) (sub : Option SubContent) (report : Option ReportContent) (n : ℕ)
     : Status → List ℕ → Type 0 where
-  missing : question_of r report n ≡ None
-      → AsksOfInput r gens report n (BadInput (n + 1) Missing) (refusal_text (BadInput (n + 1) Missing))
-  question : {s : Status} {text : List ℕ} (q : Question) → question_of r report n ≡ Some q
-      → AsksOfGenerators q gens s text → AsksOfInput r gens report n s text
+  missing : question_of r sub report n ≡ None
+      → AsksOfInput r gens sub report n (BadInput (n + 1) Missing) (refusal_text (BadInput (n + 1) Missing))
+  question : {s : Status} {text : List ℕ} (q : Question) → question_of r sub report n ≡ Some q
+      → AsksOfGenerators q gens s text → AsksOfInput r gens sub report n s text
 
 pub data AsksOfLines (r : Request) (bytes : List ℕ) : Status → List ℕ → Type 0 where
   faulty_line : {n : ℕ} {reason : Reason} → IsFaultyLine bytes n reason
       → AsksOfLines r bytes (BadInput n reason) (refusal_text (BadInput n reason))
   limited_line : {n : ℕ} → IsLimitLine bytes n
       → AsksOfLines r bytes (TooLarge (Report n)) (refusal_text (TooLarge (Report n)))
-  input : {s : Status} {text : List ℕ} (lines : List GenLine) (report : Option ReportContent) (n : ℕ)
-      → IsInput bytes lines report → HasLines bytes n → AsksOfInput r (operations_of lines) report n s text
+  input : {s : Status} {text : List ℕ} (lines : List GenLine) (sub : Option SubContent) (report : Option ReportContent) (n : ℕ)
+      → IsInput bytes lines sub report → HasLines bytes n → AsksOfInput r (operations_of lines) sub report n s text
       → AsksOfLines r bytes s text
 
 pub data AsksOfBytes (r : Request) (bytes : List ℕ) : Status → List ℕ → Type 0 where

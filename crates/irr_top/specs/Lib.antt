@@ -2,11 +2,15 @@ pub mod StatusCode
 pub mod RefusalText
 pub mod Request
 pub mod GroupOf
+pub mod PassedLimit
+pub mod SubgroupOf
+pub mod Sections
 pub mod Question
 pub mod StarCommand
 pub mod SmallCommand
 pub mod FullCommand
 pub mod ProductCommand
+pub mod SubduceCommand
 pub mod CompatCommand
 pub mod RealCommand
 pub mod SquareCommand

@@ -6,7 +6,7 @@ use Rattle.std.specs.Fmt.{decimal}
 use Rattle.irr_top.specs.declared.status.Status.{Status}
 use Rattle.irr_top.specs.declared.status.Status.TheVariants.{Done, Rejected, Usage, BadInput, TooLarge, ReadFault, WriteFault, Memory}
 use Rattle.irr_input.specs.declared.input.Reason.{Reason}
-use Rattle.irr_input.specs.declared.input.Reason.TheVariants.{Shape, Zero, Range, Determinant, Missing, Report as ReportFault}
+use Rattle.irr_input.specs.declared.input.Reason.TheVariants.{Shape, Zero, Range, Determinant, Missing, Report as ReportFault, Singular, NotInGroup}
 use Rattle.irr_top.specs.declared.status.Kind.{Kind}
 use Rattle.irr_top.specs.declared.status.Kind.TheVariants.{Bytes, Report, Rotations, Denominator, Centrings, Order}
 
@@ -18,6 +18,8 @@ reason_text (Range place) = codes "range " ++ decimal (suc place)
 reason_text Determinant = codes "determinant"
 reason_text Missing = codes "missing"
 reason_text ReportFault = codes "report"
+reason_text Singular = codes "singular"
+reason_text NotInGroup = codes "not in group"
 
 abbrev pub kind_text : Kind → List ℕ
 kind_text Bytes = codes "bytes"

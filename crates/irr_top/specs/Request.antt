@@ -13,13 +13,14 @@ use Rattle.irr_input.specs.Command.{AreWords, IsFaulty}
 use Rattle.irr_input.specs.declared.words.Command.{Command}
 use Rattle.irr_input.specs.declared.words.Command.TheVariants as commands
 use Rattle.irr_top.specs.declared.request.Request.{Request}
-use Rattle.irr_top.specs.declared.request.Request.TheVariants.{Star, Small, Full, Product, Compat, Real, Square, Tensor, Site, Check, Gen}
+use Rattle.irr_top.specs.declared.request.Request.TheVariants.{Star, Small, Full, Product, Subduce, Compat, Real, Square, Tensor, Site, Check, Gen}
 
 abbrev pub command_of : Request → Command
 command_of (Star k) = commands.Star k
 command_of (Small k) = commands.Small k
 command_of (Full k) = commands.Full k
 command_of (Product k l) = commands.Product k l
+command_of (Subduce k) = commands.Subduce k
 command_of (Compat k l m) = commands.Compat k l m
 command_of (Real k) = commands.Real k
 command_of (Square k) = commands.Square k
@@ -34,7 +35,7 @@ IsServed (commands.Small k) = Unit {0}
 IsServed (commands.Full k) = Unit {0}
 IsServed (commands.Real k) = Unit {0}
 IsServed (commands.Product k l) = Unit {0}
-IsServed (commands.Subduce k) = ⊥
+IsServed (commands.Subduce k) = Unit {0}
 IsServed (commands.Compat k l m) = Unit {0}
 IsServed (commands.Square k) = Unit {0}
 IsServed (commands.Tensor f) = Unit {0}
@@ -52,7 +53,7 @@ abbrev pub BeginsServed : List (List ℕ) → Type 0
 BeginsServed [] = ⊥
 BeginsServed (w ∷ ws) = (w ≡ codes "star") ⊎ ((w ≡ codes "small") ⊎ ((w ≡ codes "full")
     ⊎ ((w ≡ codes "product") ⊎ ((w ≡ codes "compat") ⊎ ((w ≡ codes "real") ⊎ ((w ≡ codes "square") ⊎ ((w ≡ codes "tensor")
-    ⊎ ((w ≡ codes "site") ⊎ ((w ≡ codes "check") ⊎ (w ≡ codes "gen"))))))))))
+    ⊎ ((w ≡ codes "site") ⊎ ((w ≡ codes "check") ⊎ ((w ≡ codes "gen") ⊎ (w ≡ codes "subduce")))))))))))
 
 abbrev pub IsFaultyWord : List (List ℕ) → ℕ → Type 0
 IsFaultyWord words n = IsFaulty IsCommand words n
@@ -62,6 +63,7 @@ made_number (Star k) = None
 made_number (Small k) = None
 made_number (Full k) = None
 made_number (Product k l) = None
+made_number (Subduce k) = None
 made_number (Compat k l m) = None
 made_number (Real k) = None
 made_number (Square k) = None

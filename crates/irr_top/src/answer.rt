@@ -8,11 +8,13 @@ ghost use Rattle.irr_seitz.specs.declared.op.Op.{Op};
 ghost use Rattle.irr_triplet.specs.Readable.{IsReadable};
 ghost use Rattle.irr_report.specs.Limits.{IsWithinLimits as IsLimitedReport};
 ghost use Rattle.irr_input.specs.Command.{AreLimited};
-ghost use Rattle.irr_input.specs.InputLines.{content};
+ghost use Rattle.irr_input.specs.InputLines.{content, sub_content};
 ghost use Rattle.irr_top.specs.Request.{command_of, made_number as made_of};
 ghost use Rattle.irr_top.specs.GroupOf.{IsGroupOf, group_of};
 ghost use Rattle.irr_top.specs.Answer.{AsksOfGroup, IsReplied, IsNoReply};
-ghost use Rattle.irr_top.specs.Asked.{AsksOfRequest, AsksOfBytes, AsksOfLines, AsksOfInput, AsksOfGenerators, input_limit, operations_of, passed_limit};
+ghost use Rattle.irr_top.specs.Asked.{AsksOfRequest, AsksOfBytes, AsksOfLines, AsksOfInput, AsksOfGenerators, input_limit, operations_of};
+ghost use Rattle.irr_top.specs.PassedLimit.{passed_limit};
+ghost use Rattle.irr_top.specs.Sections.{IsLimitedSection};
 ghost use Rattle.irr_top.specs.Outcome.{OutcomeOf, Serves};
 ghost use Rattle.irr_top.specs.Task.{asked_by, IsLimited};
 ghost use Rattle.irr_top.specs.declared.status.Status.TheVariants.{Done, ReadFault};
@@ -31,6 +33,7 @@ use crate::small::small_reply;
 use crate::square::square_reply;
 use crate::star::star_reply;
 use crate::status::{Kind, Status};
+use crate::subduce::subduce_reply;
 use crate::task::{Number, Task, task_of};
 use crate::tensor::tensor_reply;
 use irr_close::{CloseError, Group, close};
@@ -128,7 +131,7 @@ fn answer_lines<O: Sink>(alloc: Global, request: &Request, bytes: &[u8], sink: &
     }
 }
 
-// Answers a request, on an input of these generators and perhaps a report.
+// Answers a request, on an input of these generators, perhaps a subgroup and perhaps a report.
 fn answer_input<O: Sink>(
     alloc: Global,
     request: &Request,
@@ -136,13 +139,14 @@ fn answer_input<O: Sink>(
     sink: &mut O,
 ) -> Status
     requires readable { All (λ g. IsReadable (operation g.op)) input.gens.items }
+    requires sections { IfSome input.sub IsLimitedSection }
     requires reports { IfSome input.report IsLimitedReport }
     requires few { input.lines ≤ input_limit }
     requires limits { AreLimited (command_of request.now) }
-    ensures { Serves (AsksOfInput request.now (operations_of input.gens.items) (content input.report) input.lines)
+    ensures { Serves (AsksOfInput request.now (operations_of input.gens.items) (sub_content input.sub) (content input.report) input.lines)
         (O.view sink.old) (O.view sink.new) result }
 {
-    match task_of(request, input.report, input.lines) {
+    match task_of(request, input.sub, input.report, input.lines) {
         Some(task) => answer_task(alloc, &task, &input.gens, sink),
         None => {
             let status = Status::BadInput {
@@ -235,6 +239,7 @@ fn reply_of(alloc: Global, task: &Task, group: &Group) -> Result<Reply, NoReply>
         Task::Small(wave) => small_reply(alloc, group, wave),
         Task::Full(wave) => full_reply(alloc, group, wave),
         Task::Product(first, second) => product_reply(alloc, group, first, second),
+        Task::Subduce(wave, section) => subduce_reply(alloc, group, wave, section),
         Task::Compat(first, second, third) => compat_reply(alloc, group, first, second, third),
         Task::Real(wave) => real_reply(alloc, group, wave),
         Task::Square(wave) => square_reply(alloc, group, wave),

@@ -1,5 +1,5 @@
 // Laws on what is asked for, and on how runs end.
-ghost use Rattle.std.specs.Prelude.{ℕ, List, Some, ◌≡◌, ◌⊎◌};
+ghost use Rattle.std.specs.Prelude.{ℕ, List, Option, Some, ◌≡◌, ◌⊎◌};
 ghost use Rattle.irr_io.specs.Views.{SourceView, SinkView, IsAtEnd, ReadFailed, WriteFailed};
 ghost use Rattle.irr_space.specs.Operation.{WaveVector};
 ghost use Rattle.irr_space.specs.Reciprocal.{Sign};
@@ -7,6 +7,7 @@ ghost use Rattle.irr_space.specs.Reciprocal.Sign.{minus};
 ghost use Rattle.irr_seitz.specs.declared.op.Op.{Op};
 ghost use Rattle.irr_text.specs.ReportText.{ReportContent};
 ghost use Rattle.irr_text.specs.StarText.{StarContent, IsStarOf};
+ghost use Rattle.irr_input.specs.Stages.{SubContent};
 ghost use Rattle.irr_input.specs.InputLines.{IsInput};
 ghost use Rattle.irr_input.specs.declared.input.GenLine.{GenLine};
 ghost use Rattle.irr_check.specs.Trials.Reading.{meaning};
@@ -53,8 +54,8 @@ pub fn an_outcome_status_by_status()
 
 /// A report that an input has and that has the verdict Yes is that of a complete list of small representations.
 pub fn yes_is_for_complete_reports()
-    ensures { (bytes : List ℕ) (lines : List GenLine) (gens : List Op) (r : ReportContent)
-        → IsInput bytes lines (Some r) → IsVerdict meaning minus (group_of gens) r Yes
+    ensures { (bytes : List ℕ) (lines : List GenLine) (sub : Option SubContent) (gens : List Op) (r : ReportContent)
+        → IsInput bytes lines sub (Some r) → IsVerdict meaning minus (group_of gens) r Yes
         → IsCompleteReport minus (group_of gens) r }
 {}
 

@@ -18,6 +18,7 @@ mod small;
 mod square;
 mod star;
 mod status;
+mod subduce;
 mod task;
 mod tensor;
 mod top;

@@ -67,6 +67,8 @@ fn bad_line(alloc: Global, line: u64, reason: Reason) -> Result<String, AllocErr
         Reason::Determinant => format!(in alloc; "bad input line {line}: determinant\n"),
         Reason::Missing => format!(in alloc; "bad input line {line}: missing\n"),
         Reason::Report => format!(in alloc; "bad input line {line}: report\n"),
+        Reason::Singular => format!(in alloc; "bad input line {line}: singular\n"),
+        Reason::NotInGroup => format!(in alloc; "bad input line {line}: not in group\n"),
     }
 }
 

@@ -18,6 +18,8 @@ pub(crate) enum Request {
     Full(Wave),
     /// The direct products of the full representations at two wave vectors.
     Product(Wave, Wave),
+    /// The parts of the full representations at a wave vector under the input's subgroup.
+    Subduce(Wave),
     /// The compatibility relations of a line through two points, or of a plane through three.
     Compat(Wave, Wave, Option<Wave>),
     /// The types of the full representations.
@@ -60,6 +62,7 @@ pub(crate) fn made_number(request: &Request) -> Option<u32>
         | Request::Small(_)
         | Request::Full(_)
         | Request::Product(_, _)
+        | Request::Subduce(_)
         | Request::Compat(_, _, _)
         | Request::Real(_)
         | Request::Square(_)
@@ -79,6 +82,7 @@ fn request_of(command: Command) -> Option<Request>
         Command::Small(wave) => Some(Request::Small(wave)),
         Command::Full(wave) => Some(Request::Full(wave)),
         Command::Product(first, second) => Some(Request::Product(first, second)),
+        Command::Subduce(wave) => Some(Request::Subduce(wave)),
         Command::Compat(first, second, third) => Some(Request::Compat(first, second, third)),
         Command::Real(wave) => Some(Request::Real(wave)),
         Command::Square(wave) => Some(Request::Square(wave)),
@@ -86,7 +90,6 @@ fn request_of(command: Command) -> Option<Request>
         Command::Site(point, wave) => Some(Request::Site(point, wave)),
         Command::Check => Some(Request::Check),
         Command::Gen(number) => Some(Request::Gen(number)),
-        Command::Subduce(_) => None,
     }
 }
 
@@ -108,6 +111,7 @@ fn begins_served(words: &[Vec<u8>]) -> bool
                 | b"site"
                 | b"check"
                 | b"gen"
+                | b"subduce"
         ),
         None => false,
     }

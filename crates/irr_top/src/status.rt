@@ -36,7 +36,8 @@ pub enum Status {
     },
     /// The words are no command: the word of this number, counted from 1, is wrong, superfluous or missing.
     Usage(u32),
-    /// The first faulty line of the input, counted from 1; the one after the last where a report is missing.
+    /// The first faulty line of the input, counted from 1; the one after the last where a section is missing.
+    /// Or the line of a subgroup's basis or of one of its generators, which gives none.
     BadInput {
         line: u64,
         reason: Reason,

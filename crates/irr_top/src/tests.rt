@@ -11,6 +11,7 @@ mod site;
 mod small;
 mod square;
 mod star;
+mod subduce;
 mod tensor;
 
 use super::*;

@@ -1,5 +1,6 @@
 // Summaries of made inputs.
 use super::*;
+use irr_gen::make;
 
 // What `gen` writes for a number, and its status. Each read of the source fails.
 fn made(alloc: Global, number: &str) -> Result<(Status, Vec<u8>), Fail> {
@@ -35,5 +36,25 @@ fn made_inputs_are_summed_up_and_the_source_is_not_read(rt: HostRuntime) -> Resu
         assert_eq!(rt; status, Status::Done, "at {number}");
         assert_eq!(rt; text.as_slice(), summary.as_bytes(), "at {number}");
     }
+    Ok(())
+}
+
+#[test]
+fn the_made_input_of_seven_is_diamond(rt: HostRuntime) -> Result<(), Fail> {
+    let made = make(rt.alloc(), 7)?;
+    let input = Vec::from_slice(rt.alloc(), &made.text)?;
+    let fails = Vec::new(rt.alloc());
+    let (status, text) = ran(rt.alloc(), &["small", "0,1,0"], input, fails, 1 << 20)?;
+    assert_eq!(rt; status, Status::Done);
+    assert!(rt; lines_are(&text, "wave", &["wave 0,1,0"], true));
+    assert!(rt; lines_are(&text, "order", &["order 24"], true));
+    assert!(rt; lines_are(&text, "ops", &["ops 16"], true));
+    let dimensions = [
+        "rep S1 dim 2",
+        "rep S2 dim 2",
+        "rep S3 dim 2",
+        "rep S4 dim 2",
+    ];
+    assert!(rt; lines_are(&text, "rep ", &dimensions, true));
     Ok(())
 }

@@ -32,7 +32,8 @@ fn words_are_refused(rt: HostRuntime) -> Result<(), Fail> {
         (&["site", "0,0,0"], "usage 3\n"),
         (&["site", "1001,0,0", "0,0,0"], "usage 2\n"),
         (&["site", "0,0,0", "0,0,0", "0"], "usage 4\n"),
-        (&["subduce", "0,0,0"], "usage 1\n"),
+        (&["subduce"], "usage 2\n"),
+        (&["subduce", "0,0,0", "0"], "usage 3\n"),
         (&["check", "0"], "usage 2\n"),
         (&["gen"], "usage 2\n"),
         (&["gen", "4294967296"], "usage 2\n"),
@@ -83,7 +84,7 @@ fn inputs_are_refused(rt: HostRuntime) -> Result<(), Fail> {
         ("\n'x,y,z\"\r\n", "0,0,0", 3, "bad input line 2: shape 7\n"),
         ("-x,-y,-z\r", "0,0,0", 3, "bad input line 1: shape 9\n"),
         ("-10X,y,z\n", "0,0,0", 3, "bad input line 1: range 2\n"),
-        ("  subgroup\n", "0,0,0", 3, "bad input line 1: shape 3\n"),
+        ("  subgroup\n", "0,0,0", 3, "bad input line 2: missing\n"),
         (CUBIC, "1/1001,0,0", 4, "too large: order 12012\n"),
         ("x+y,y,z\n", "0,0,0", 4, "too large: rotations\n"),
         (
@@ -159,6 +160,8 @@ fn a_line_of_a_refusal_is_made(rt: HostRuntime) -> Result<(), Fail> {
         (Reason::Determinant, "bad input line 2: determinant\n"),
         (Reason::Missing, "bad input line 2: missing\n"),
         (Reason::Report, "bad input line 2: report\n"),
+        (Reason::Singular, "bad input line 2: singular\n"),
+        (Reason::NotInGroup, "bad input line 2: not in group\n"),
     ] {
         let status = Status::BadInput { line: 2, reason };
         let line = text_refusal(rt.alloc(), &status)?;

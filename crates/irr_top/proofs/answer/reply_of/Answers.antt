@@ -22,6 +22,10 @@ pub returns-in-Product-clause-none : goal.returns-in-Product-clause-none
 returns-in-Product-clause-none c = λ gens is. subst (λ (t : Task). IfErr c.product_reply.result (IsNoReply (asked_by t) (group_of gens)))
     (sym c.in-Product.is) (c.product_reply.ensures.none gens is)
 
+pub returns-in-Subduce-clause-none : goal.returns-in-Subduce-clause-none
+returns-in-Subduce-clause-none c = λ gens is. subst (λ (t : Task). IfErr c.subduce_reply.result (IsNoReply (asked_by t) (group_of gens)))
+    (sym c.in-Subduce.is) (c.subduce_reply.ensures.none gens is)
+
 pub returns-in-Compat-clause-none : goal.returns-in-Compat-clause-none
 returns-in-Compat-clause-none c = λ gens is. subst (λ (t : Task). IfErr c.compat_reply.result (IsNoReply (asked_by t) (group_of gens)))
     (sym c.in-Compat.is) (c.compat_reply.ensures.none gens is)

@@ -34,6 +34,14 @@ report_pieces : (a : List ℕ) → codes "bad input line " ++ (a ++ codes ": rep
     codes "report" ++ 10 ∷ []
 report_pieces a = regroup (codes "bad input line ") a (codes ": ") (codes "report") (10 ∷ [])
 
+singular_pieces : (a : List ℕ) → codes "bad input line " ++ (a ++ codes ": singular\n") ≡ codes "bad input line " ++ a ++ codes ": " ++
+    codes "singular" ++ 10 ∷ []
+singular_pieces a = regroup (codes "bad input line ") a (codes ": ") (codes "singular") (10 ∷ [])
+
+outside_pieces : (a : List ℕ) → codes "bad input line " ++ (a ++ codes ": not in group\n") ≡ codes "bad input line " ++ a ++ codes ": " ++
+    codes "not in group" ++ 10 ∷ []
+outside_pieces a = regroup (codes "bad input line ") a (codes ": ") (codes "not in group") (10 ∷ [])
+
 pub returns-in-Shape : goal.returns-in-Shape
 returns-in-Shape c =
     subst (λ r. IfOk c.format.result (λ s. string_bytes s ≡ refusal_text (BadInput c.args.line r))) (sym c.in-Shape.is)
@@ -75,3 +83,15 @@ returns-in-Report c =
     subst (λ r. IfOk c.format-in-Report.result (λ s. string_bytes s ≡ refusal_text (BadInput c.args.line r))) (sym c.in-Report.is)
     (subst (λ text. IfOk c.format-in-Report.result (λ s. string_bytes s ≡ text)) (report_pieces (decimal c.args.line))
     c.format-in-Report.ensures.ok)
+
+pub returns-in-Singular : goal.returns-in-Singular
+returns-in-Singular c =
+    subst (λ r. IfOk c.format-in-Singular.result (λ s. string_bytes s ≡ refusal_text (BadInput c.args.line r))) (sym c.in-Singular.is)
+    (subst (λ text. IfOk c.format-in-Singular.result (λ s. string_bytes s ≡ text)) (singular_pieces (decimal c.args.line))
+    c.format-in-Singular.ensures.ok)
+
+pub returns-in-NotInGroup : goal.returns-in-NotInGroup
+returns-in-NotInGroup c =
+    subst (λ r. IfOk c.format-in-NotInGroup.result (λ s. string_bytes s ≡ refusal_text (BadInput c.args.line r))) (sym c.in-NotInGroup.is)
+    (subst (λ text. IfOk c.format-in-NotInGroup.result (λ s. string_bytes s ≡ text)) (outside_pieces (decimal c.args.line))
+    c.format-in-NotInGroup.ensures.ok)
